@@ -1,0 +1,4 @@
+pub mod Numbers
+pub mod Choice
+pub mod Answers
+pub mod Settled

@@ -1,0 +1,35 @@
+-- `sha256_block::next_word` meets its contract. Assumes nothing.
+use Rattle.sha256_block.specs.Block.{next}
+use borrow.Author.Needs.{needs}
+use Rattle.sha256_block.proofs.next_word.Statement.{statement}
+use Rattle.sha256_block.proofs.next_word.Tie as tie
+
+small-sigma1-requires : tie.Need-small-sigma1-requires
+small-sigma1-requires c κs = search needs
+
+add-requires : tie.Need-add-requires
+add-requires c κs = search needs
+
+small-sigma0-requires : tie.Need-small-sigma0-requires
+small-sigma0-requires c κs = search needs
+
+add-requires-2 : tie.Need-add-requires-2
+add-requires-2 c κs = search needs
+
+add-requires-3 : tie.Need-add-requires-3
+add-requires-3 c κs = search needs
+
+returns : tie.Need-returns
+unfolding next
+returns c = cc
+
+pub next-word-spec : {M : Type 1} → statement M
+next-word-spec =
+    tie.close
+    (tie.spec
+    small-sigma1-requires
+    add-requires
+    small-sigma0-requires
+    add-requires-2
+    add-requires-3
+    returns)

@@ -1,0 +1,4 @@
+pub mod Words
+pub mod Functions
+pub mod Constants
+pub mod Block

@@ -1,0 +1,184 @@
+// SHA-256's block function: FIPS 180-4, 6.2.2, over the whole blocks of some bytes. Padding and the running hash are `sha256`'s.
+mod constants;
+mod functions;
+
+use constants::K;
+use functions::add;
+ghost use mathlib.Core.Path.{_≡_};
+ghost use Prim.Native.Nat.{_+_, _<_};
+ghost use lib.ListN.{length, take};
+ghost use Rattle.sha256_block.specs.Words as W;
+ghost use Rattle.sha256_block.specs.Constants as C;
+ghost use Rattle.sha256_block.specs.Block as B;
+
+// The eight working variables.
+pub struct Vars {
+    pub a: u32,
+    pub b: u32,
+    pub c: u32,
+    pub d: u32,
+    pub e: u32,
+    pub f: u32,
+    pub g: u32,
+    pub h: u32,
+}
+
+// The initial hash value.
+pub fn initial() -> [u32; 8]
+    ensures { λ r. ⌜ r ≡ C.H ⌝ }
+{
+    constants::H
+}
+
+fn wide(x: u8) -> u32
+    ensures { λ r. ⌜ (r ≡ x) × (r < 256) ⌝ }
+{
+    x as u32
+}
+
+// The big-endian word of the four bytes from i on.
+fn word_at(m: &[u8], i: usize) -> u32
+    requires { ⌜ i + 3 < length (now m) ⌝ }
+    ensures { λ r. ⌜ r ≡ W.word (now (m .entry)) i ⌝ }
+{
+    wide(m[i]) * 0x100_0000 + wide(m[i + 1]) * 0x1_0000 + wide(m[i + 2]) * 0x100 + wide(m[i + 3])
+}
+
+// The schedule's word from the words 2, 7, 15 and 16 places before it.
+fn next_word(w2: u32, w7: u32, w15: u32, w16: u32) -> u32
+    ensures { λ r. ⌜ r ≡ B.next w2 w7 w15 w16 ⌝ }
+{
+    add(
+        add(
+            add(functions::small_sigma1(w2), w7),
+            functions::small_sigma0(w15),
+        ),
+        w16,
+    )
+}
+
+// The 16 words of the block m, and zeros behind them.
+fn opening(m: &[u8]) -> [u32; 64]
+    requires { ⌜ length (now m) ≡ 64 ⌝ }
+    ensures { λ r. ⌜ (length r ≡ 64) × (take 16 r ≡ W.words (now (m .entry)) 16) ⌝ }
+{
+    let mut w = [0u32; 64];
+    let mut i = 0;
+    while i < 16 {
+        w[i] = word_at(m, i * 4);
+        i += 1;
+    }
+    w
+}
+
+// The message schedule of the block m.
+fn schedule(m: &[u8]) -> [u32; 64]
+    requires { ⌜ length (now m) ≡ 64 ⌝ }
+    ensures { λ r. ⌜ r ≡ B.schedule (now (m .entry)) 48 ⌝ }
+{
+    let mut w = opening(m);
+    let mut t = 0;
+    while t < 48 {
+        w[t + 16] = next_word(w[t + 14], w[t + 9], w[t + 1], w[t]);
+        t += 1;
+    }
+    w
+}
+
+// One round, with the constant k and the schedule's word w.
+fn round(k: u32, w: u32, v: Vars) -> Vars
+    ensures { λ r. ⌜ r ≡ B.round k w v ⌝ }
+{
+    let t1 = add(
+        add(
+            add(
+                add(v.h, functions::big_sigma1(v.e)),
+                functions::ch(v.e, v.f, v.g),
+            ),
+            k,
+        ),
+        w,
+    );
+    let t2 = add(functions::big_sigma0(v.a), functions::maj(v.a, v.b, v.c));
+    Vars {
+        a: add(t1, t2),
+        b: v.a,
+        c: v.b,
+        d: v.c,
+        e: add(v.d, t1),
+        f: v.e,
+        g: v.f,
+        h: v.g,
+    }
+}
+
+// The 64 rounds. The constants are lent: read from the table itself, each round would build it anew.
+fn rounds(k: &[u32; 64], w: &[u32; 64], v: Vars) -> Vars
+    requires { ⌜ now k ≡ C.K ⌝ }
+    ensures { λ r. ⌜ r ≡ B.rounds (now (w .entry)) v 64 ⌝ }
+{
+    let mut u = v;
+    let mut t = 0;
+    while t < 64 {
+        u = round(k[t], w[t], u);
+        t += 1;
+    }
+    u
+}
+
+// A hash value as working variables.
+fn load(s: [u32; 8]) -> Vars
+    ensures { λ r. ⌜ r ≡ B.load s ⌝ }
+{
+    Vars {
+        a: s[0],
+        b: s[1],
+        c: s[2],
+        d: s[3],
+        e: s[4],
+        f: s[5],
+        g: s[6],
+        h: s[7],
+    }
+}
+
+// The working variables added to the hash value.
+fn add_to(s: [u32; 8], v: Vars) -> [u32; 8]
+    ensures { λ r. ⌜ r ≡ B.addTo s v ⌝ }
+{
+    [
+        add(s[0], v.a),
+        add(s[1], v.b),
+        add(s[2], v.c),
+        add(s[3], v.d),
+        add(s[4], v.e),
+        add(s[5], v.f),
+        add(s[6], v.g),
+        add(s[7], v.h),
+    ]
+}
+
+// The hash value after the block m.
+fn compress(k: &[u32; 64], s: [u32; 8], m: &[u8]) -> [u32; 8]
+    requires { ⌜ (now k ≡ C.K) × (length (now m) ≡ 64) ⌝ }
+    ensures { λ r. ⌜ r ≡ B.compress s (now (m .entry)) ⌝ }
+{
+    let w = schedule(m);
+    add_to(s, rounds(k, &w, load(s)))
+}
+
+// The hash value after the whole blocks of the bytes; what is left behind them is not looked at.
+pub fn blocks(words: [u32; 8], bytes: &[u8]) -> [u32; 8]
+    ensures { λ r. ⌜ r ≡ B.whole words (now (bytes .entry)) ⌝ }
+{
+    let k = K;
+    let n = bytes.len() / 64;
+    let mut w = words;
+    let mut i = 0;
+    while i < n {
+        let next = compress(&k, w, &bytes[i * 64..i * 64 + 64]);
+        w = next;
+        i += 1;
+    }
+    w
+}

@@ -1,50 +1,40 @@
--- One step of each definition that a loop follows. Assumes nothing.
-use mathlib.Core.Path.{_≡_, refl, sym, ap, _∙_}
-use mathlib.Core.List.{List, [], _∷_, _++_}
-use Prim.Native.Nat.{ℕ, _+_, _*_, _<_}
-use native.Mathlib.Numerals.{add-one}
+-- Laws of the hash value after whole blocks, for the crates above. Assumes nothing.
+use mathlib.Core.Path.{_≡_, refl, ap, _∙_}
+use mathlib.Core.List.{List, _++_}
+use Prim.Native.Nat.{ℕ, zero, suc, _+_, _*_, _/_, _%_, _≤_, _<_}
+use native.Mathlib.Nat.{add-zero}
 use native.Mathlib.Omega.{arith}
-use lib.ListN.{length, getD, take, drop, set}
-use lib.Seq.{take-suc-set, getD-take}
-use Rattle.sha256_block.specs.declared.Vars.{Vars}
-use Rattle.sha256_block.specs.Words.{word, words}
-use Rattle.sha256_block.specs.Constants.{K}
-use Rattle.sha256_block.specs.Block.{next, schedule, round, rounds, compress, blocks}
+use lib.ListN.{length, take, drop, length-append, length-drop}
+use lib.Seq.{take-append-le, drop-append-le, drop-append-add}
+use Rattle.sha256_block.specs.Block.{blocks, whole}
 
--- a list whose first i elements are p, with x stored behind them
-grown : (l p : List ℕ) (i x : ℕ) → i < length l → take i l ≡ p → take (i + 1) (set l i x) ≡ p ++ (x ∷ [])
-grown l p i x h e = rw (add-one, take-suc-set, e)
-
-words-next : (m : List ℕ) (i : ℕ) → words m (i + 1) ≡ words m i ++ (word m (i * 4) ∷ [])
-unfolding words
-words-next m i = rw add-one
-
-pub words-more : (m w : List ℕ) (i x : ℕ) → i < length w → take i w ≡ words m i → x ≡ word m (i * 4)
-    → take (i + 1) (set w i x) ≡ words m (i + 1)
-words-more m w i x h inv e = cc (grown w (words m i) i x h inv, words-next m i)
-
-schedule-next : (m : List ℕ) (n : ℕ)
-    → schedule m (n + 1) ≡ schedule m n ++ (next (getD (schedule m n) (n + 14) 0) (getD (schedule m n) (n + 9) 0) (getD (schedule m n) (n + 1) 0) (getD (schedule m n) n 0) ∷ [])
-unfolding schedule
-schedule-next m n = rw (add-one, add-one)
-
--- the schedule's next word is made of words that are there
-pub schedule-more : (m w : List ℕ) (n x : ℕ) → n + 16 < length w → take (n + 16) w ≡ schedule m n
-    → x ≡ next (getD w (n + 14) 0) (getD w (n + 9) 0) (getD w (n + 1) 0) (getD w n 0)
-    → take (n + 1 + 16) (set w (n + 16) x) ≡ schedule m (n + 1)
-schedule-more m w n x h inv e =
-    let e′ : n + 1 + 16 ≡ n + 16 + 1 = omega arith in
-    let p : List ℕ = take (n + 16) w in
-    let at : (i : ℕ) → i < n + 16 → getD w i 0 ≡ getD p i 0 = λ i l. sym (getD-take (n + 16) w i 0 l) in
-    cc (grown w p (n + 16) x h refl, schedule-next m n, at (n + 14) (omega arith), at (n + 9) (omega arith), at (n + 1) (omega arith), at n (omega arith))
-
-pub rounds-next : (w : List ℕ) (v : Vars) (t : ℕ) → rounds w v (t + 1) ≡ round (getD K t 0) (getD w t 0) (rounds w v t)
-unfolding rounds
-rounds-next w v t = rw add-one
-
-blocks-next : (s m : List ℕ) (n : ℕ) → blocks s m (n + 1) ≡ compress (blocks s m n) (take 64 (drop (n * 64) m))
+-- the hash value after n blocks says nothing of what stands behind them
+blocks-append : (s m x : List ℕ) (n : ℕ) → n * 64 ≤ length m → blocks s (m ++ x) n ≡ blocks s m n
 unfolding blocks
-blocks-next s m n = rw add-one
+blocks-append s m x zero h = refl
+blocks-append s m x (suc n) h =
+    let l : 64 ≤ length (drop (n * 64) m) = rw length-drop (omega arith) in
+    cc (blocks-append s m x n (omega arith), drop-append-le (n * 64) m x (omega arith), take-append-le 64 (drop (n * 64) m) x l)
 
-pub blocks-more : (s m w r : List ℕ) (n k : ℕ) → k ≡ 64 → w ≡ blocks s m n → r ≡ compress w (take k (drop (n * 64) m)) → r ≡ blocks s m (n + 1)
-blocks-more s m w r n k ek ew er = cc (blocks-next s m n)
+blocks-join : (s a b : List ℕ) (i j : ℕ) → length a ≡ i * 64 → blocks s (a ++ b) (i + j) ≡ blocks (blocks s a i) b j
+unfolding blocks
+blocks-join s a b i zero h = ap (λ (n : ℕ). blocks s (a ++ b) n) (add-zero i) ∙ blocks-append s a b i (omega arith)
+blocks-join s a b i (suc j) h =
+    let e : i + suc j ≡ suc (i + j) = omega arith in
+    let d : (i + j) * 64 ≡ length a + j * 64 = omega arith in
+    ap (λ (n : ℕ). blocks s (a ++ b) n) e
+    ∙ cc (blocks-join s a b i j h, ap (λ (n : ℕ). drop n (a ++ b)) d, drop-append-add a b (j * 64))
+
+-- whole blocks, and others behind them
+pub whole-join : (s a b : List ℕ) → length a % 64 ≡ 0 → whole s (a ++ b) ≡ whole (whole s a) b
+whole-join s a b h =
+    let l : length (a ++ b) ≡ length a + length b = length-append a b in
+    let e : length (a ++ b) / 64 ≡ length a / 64 + length b / 64 = omega arith in
+    ap (λ (n : ℕ). blocks s (a ++ b) n) e ∙ blocks-join s a b (length a / 64) (length b / 64) (omega arith)
+
+-- too few bytes for a block
+pub whole-short : (s a : List ℕ) → length a < 64 → whole s a ≡ s
+unfolding blocks
+whole-short s a h =
+    let e : length a / 64 ≡ 0 = omega arith in
+    ap (λ (n : ℕ). blocks s a n) e

@@ -1,1 +1,3 @@
+pub mod Lists
+pub mod Loops
 pub mod Laws

@@ -5,7 +5,7 @@ use native.Mathlib.Omega.{arith}
 use lib.ListN.{length, length-take, length-drop}
 use Rattle.sha256_block.specs.Constants.{K}
 use Rattle.sha256_block.specs.Block.{blocks}
-use Rattle.sha256_block.proofs.Laws.{blocks-more}
+use Rattle.sha256_block.proofs.Loops.{blocks-more}
 use borrow.Author.Needs.{needs}
 use Rattle.sha256_block.proofs.blocks.Statement.{statement}
 use Rattle.sha256_block.proofs.blocks.Tie as tie

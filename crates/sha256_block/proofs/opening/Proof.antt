@@ -4,7 +4,7 @@ use Prim.Native.Nat.{_≤_, _-_}
 use native.Mathlib.Omega.{arith}
 use lib.ListN.{length, take, length-set}
 use Rattle.sha256_block.specs.Words.{words}
-use Rattle.sha256_block.proofs.Laws.{words-more}
+use Rattle.sha256_block.proofs.Loops.{words-more}
 use borrow.Author.Needs.{needs}
 use Rattle.sha256_block.proofs.opening.Statement.{statement}
 use Rattle.sha256_block.proofs.opening.Tie as tie

@@ -3,7 +3,7 @@ use mathlib.Core.Path.{_≡_, refl}
 use Prim.Native.Nat.{_≤_, _-_}
 use native.Mathlib.Omega.{arith}
 use Rattle.sha256_block.specs.Block.{rounds}
-use Rattle.sha256_block.proofs.Laws.{rounds-next}
+use Rattle.sha256_block.proofs.Loops.{rounds-next}
 use borrow.Author.Needs.{needs}
 use Rattle.sha256_block.proofs.rounds.Statement.{statement}
 use Rattle.sha256_block.proofs.rounds.Tie as tie

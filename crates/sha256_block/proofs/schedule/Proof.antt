@@ -5,7 +5,7 @@ use native.Mathlib.Omega.{arith}
 use lib.ListN.{length, take, length-set}
 use lib.Seq.{take-all}
 use Rattle.sha256_block.specs.Block.{schedule}
-use Rattle.sha256_block.proofs.Laws.{schedule-more}
+use Rattle.sha256_block.proofs.Loops.{schedule-more}
 use borrow.Author.Needs.{needs}
 use Rattle.sha256_block.proofs.schedule.Statement.{statement}
 use Rattle.sha256_block.proofs.schedule.Tie as tie

@@ -1,0 +1,94 @@
+-- The laws of the hash, for readers and for the crates above. Assumes nothing.
+use mathlib.Core.Path.{_≡_, refl, ap, subst, _∙_}
+use mathlib.Core.Bool.{Bool, false}
+use mathlib.Core.List.{List, [], _∷_, _++_}
+use Prim.Native.Nat.{ℕ, _+_, _≤_}
+use native.Mathlib.Omega.{arith}
+use borrow.Author.Tests.{le-ltb}
+use lib.ListN.{length, length-append}
+use Rattle.refusal.specs.Answers.{row}
+use Rattle.sha256_block.specs.Words.{bytes}
+use Rattle.sha256_block.specs.Constants.{H}
+use Rattle.sha256_block.specs.Block.{whole}
+use Rattle.sha256.specs.declared.Sha.{Sha}
+use Rattle.sha256.specs.declared.Taken.{Taken}
+use Rattle.sha256.specs.declared.Digest.{Digest}
+use Rattle.sha256.specs.Hash.{padding, padded, out, sha256}
+use Rattle.sha256.specs.Running.{started, taken, digest}
+use Rattle.sha256.specs.Promises.{over, Gives, Starts, TakesIn, Finishes, Hashes}
+use Rattle.sha256.specs.Settled.{gives-settled, takes-in-settled}
+use Rattle.sha256.proofs.Running.{taken-twice}
+use Rattle.sha256.proofs.Padded.{digest-of}
+
+-- ---- the definitions
+
+pub length-sha256 : (m : List ℕ) → length (sha256 m) ≡ 32
+unfolding sha256 out bytes
+length-sha256 m = refl
+
+pub started-total : started .total ≡ 0
+unfolding started
+started-total = refl
+
+pub taken-total : (s : Sha) (x : List ℕ) → taken s x .total ≡ s .total + length x
+unfolding taken
+taken-total s x = refl
+
+pub length-started : length (started .block) ≡ 64
+unfolding started
+length-started = refl
+
+words-started : (m : List ℕ) → taken started m .words ≡ whole H m
+unfolding taken started
+words-started m = refl
+
+-- start, take m in, finish: the standard's hash of m
+pub digest-taken : (m : List ℕ) → digest (taken started m) ≡ sha256 m
+unfolding sha256
+digest-taken m =
+    let s : Sha = taken started m in
+    let n : s .total ≡ length m = omega (arith, taken-total started m, started-total) in
+    digest-of s
+    ∙ ap (λ (t : Sha). out (t .words) 8) (taken-twice started m (padding (s .total)) length-started)
+    ∙ ap (λ (k : ℕ). out (taken started (m ++ padding k) .words) 8) n
+    ∙ ap (λ (w : List ℕ). out w 8) (words-started (padded m))
+
+pub hashed : (m d : List ℕ) (s t : Sha) → s ≡ started → t ≡ taken s m → d ≡ digest t → d ≡ sha256 m
+hashed m d s t es et ed = cc (digest-taken m)
+
+-- ---- the promises, where nothing is refused
+
+pub over-not : (n : ℕ) → n ≤ 131072 → over n ≡ false
+over-not n h = le-ltb 131072 n h
+
+pub gives-bytes : {t : Bool} {b : List ℕ} {r : Digest} → Gives t b r → t ≡ false → r .bytes ≡ b
+gives-bytes p e = rw e at (p .given)
+
+module _ {s : Sha} {x : List ℕ} {r : Taken} (p : TakesIn s x r) (h : s .total + length x ≤ 131072) where
+  pub takes-in-state : r .state ≡ taken s x
+  takes-in-state = rw (over-not (s .total + length x) h) at (p .handed)
+
+  takes-in-row : row (r .answer) ≡ 0 ∷ []
+  takes-in-row = rw (over-not (s .total + length x) h) at (p .answered)
+
+-- taking a in and then b is taking a ++ b in
+pub takes-in-twice : {s : Sha} {a b : List ℕ} {r q u : Taken} → length (s .block) ≡ 64 → s .total + length (a ++ b) ≤ 131072
+    → TakesIn s a r → TakesIn (r .state) b q → TakesIn s (a ++ b) u → q ≡ u
+takes-in-twice {s} {a} {b} {r} {q} {u} el h p p′ z =
+    let l : length (a ++ b) ≡ length a + length b = length-append a b in
+    let g : TakesIn (taken s a) b q = subst (λ (t : Sha). TakesIn t b q) (takes-in-state p (omega arith)) p′ in
+    let n : taken s a .total + length b ≤ 131072 = omega (arith, taken-total s a) in
+    let o : over (s .total + length (a ++ b)) ≡ false = over-not (s .total + length (a ++ b)) h in
+    takes-in-settled q u
+    (record { answered = rw o (takes-in-row g n); handed = rw o (takes-in-state g n ∙ taken-twice s a b el) })
+    z
+
+-- start, take m in, finish: what `hash` answers
+pub hashes-running : {m : List ℕ} {s : Sha} {r : Taken} {d e : Digest} → length m ≤ 131072
+    → Starts s → TakesIn s m r → Finishes (r .state) d → Hashes m e → d ≡ e
+hashes-running {m} {s} {r} {d} {e} h p q f z =
+    let z₀ : s .total ≡ 0 = ap (λ (t : Sha). t .total) p ∙ started-total in
+    let es : r .state ≡ taken started m = takes-in-state q (omega arith) ∙ ap (λ (t : Sha). taken t m) p in
+    let en : r .state .total ≡ length m = omega (arith, ap (λ (t : Sha). t .total) es ∙ taken-total started m, started-total) in
+    let ed : digest (r .state) ≡ sha256 m = ap digest es ∙ digest-taken m in
+    gives-settled d e (subst (λ (b : List ℕ). Gives (over (length m)) b d) ed (subst (λ (n : ℕ). Gives (over n) (digest (r .state)) d) en f)) z

@@ -1,0 +1,31 @@
+-- `sha256::Sha::take_in` meets its contract. Assumes nothing.
+use mathlib.Core.Path.{sym, _∙_}
+use Prim.Native.Nat.{_+_}
+use native.Mathlib.Omega.{arith}
+use borrow.Author.Tests.{ltb-false}
+use lib.ListN.{length}
+use Rattle.sha256.proofs.Answers.{takes-in-refused, takes-in-done}
+use borrow.Author.Needs.{needs}
+use Rattle.sha256.proofs.Sha.take_in.Statement.{statement}
+use Rattle.sha256.proofs.Sha.take_in.Tie as tie
+
+over-requires : tie.Need-over-requires
+over-requires c κs = search needs
+
+returns : tie.Need-returns
+returns c =
+    let z = c .before .before .before .args in
+    takes-in-refused (z .self) (z .bytes .now) (sym (c .before .over .ensures) ∙ c .if1 .taken)
+
+absorb-requires : tie.Need-absorb-requires
+absorb-requires c κs =
+    let z = c .before .before .before .args in
+    omega (arith, ltb-false 131072 (z .self .total + length (z .bytes .now)) (sym (c .before .over .ensures) ∙ c .if1 .left))
+
+returns-2 : tie.Need-returns-2
+returns-2 c =
+    let z = c .before .before .before .before .args in
+    takes-in-done (z .self) (z .bytes .now) (c .absorb .result) (sym (c .before .before .over .ensures) ∙ c .before .if1 .left) (c .absorb .ensures)
+
+pub take-in-spec : {M : Type 1} → statement M
+take-in-spec = tie.close (tie.spec over-requires returns absorb-requires returns-2)

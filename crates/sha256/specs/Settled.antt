@@ -1,4 +1,4 @@
--- Each promise settles its result: two results that meet it are equal. `Finishes` and `Hashes` are cases of `Gives`.
+-- Each promise settles its result: two results that meet it are equal.
 -- Assumes nothing.
 use mathlib.Core.Path.{_≡_, sym, ap, _∙_}
 use mathlib.Core.Bool.{Bool}
@@ -9,7 +9,7 @@ use Rattle.refusal.specs.Settled.{row-settled}
 use Rattle.sha256.specs.declared.Sha.{Sha}
 use Rattle.sha256.specs.declared.Taken.{Taken}
 use Rattle.sha256.specs.declared.Digest.{Digest}
-use Rattle.sha256.specs.Promises.{Gives, Starts, TakesIn}
+use Rattle.sha256.specs.Promises.{Gives, Starts, TakesIn, Finishes, Hashes}
 
 pub gives-settled : {t : Bool} {b : List ℕ} (r q : Digest) → Gives t b r → Gives t b q → r ≡ q
 gives-settled r q p p′ =
@@ -25,3 +25,9 @@ takes-in-settled r q p p′ =
     let a : r .answer ≡ q .answer = row-settled (r .answer) (q .answer) (p .answered ∙ sym (p′ .answered)) in
     let e : r .state ≡ q .state = p .handed ∙ sym (p′ .handed) in
     ap (λ (y : Answer). record { answer = y; state = r .state }) a ∙ ap (λ (y : Sha). record { answer = q .answer; state = y }) e
+
+pub finishes-settled : (s : Sha) (r q : Digest) → Finishes s r → Finishes s q → r ≡ q
+finishes-settled s r q p p′ = gives-settled r q p p′
+
+pub hashes-settled : (m : List ℕ) (r q : Digest) → Hashes m r → Hashes m q → r ≡ q
+hashes-settled m r q p p′ = gives-settled r q p p′

@@ -1,0 +1,3 @@
+pub mod Hmac
+pub mod Promises
+pub mod Settled

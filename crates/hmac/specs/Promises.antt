@@ -1,0 +1,17 @@
+-- What `mac` promises, for all inputs. Assumes nothing.
+use mathlib.Core.Bool.{Bool, _||_}
+use mathlib.Core.List.{List}
+use Prim.Native.Nat.{ℕ}
+use lib.Dec.{ltb}
+use lib.ListN.{length}
+use Rattle.sha256.specs.declared.Digest.{Digest}
+use Rattle.sha256.specs.Promises.{Gives}
+use Rattle.hmac.specs.Hmac.{hmac}
+
+-- HMAC takes a key and a message of 0 to 65,536 bytes: l is too long
+abbrev pub long : List ℕ → Bool
+long l = ltb 65536 (length l)
+
+-- `mac`: refused exactly if the key or the message is too long
+abbrev pub Macs : List ℕ → List ℕ → Digest → Type 0
+Macs k m r = Gives (long k || long m) (hmac k m) r

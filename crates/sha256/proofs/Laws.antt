@@ -1,5 +1,5 @@
 -- The laws of the hash, for readers and for the crates above. Assumes nothing.
-use mathlib.Core.Path.{_≡_, refl, ap, subst, _∙_}
+use mathlib.Core.Path.{_≡_, refl, sym, ap, subst, _∙_}
 use mathlib.Core.Bool.{Bool, false}
 use mathlib.Core.List.{List, [], _∷_, _++_}
 use Prim.Native.Nat.{ℕ, _+_, _≤_}
@@ -13,12 +13,11 @@ use Rattle.sha256_block.specs.Block.{whole}
 use Rattle.sha256.specs.declared.Sha.{Sha}
 use Rattle.sha256.specs.declared.Taken.{Taken}
 use Rattle.sha256.specs.declared.Digest.{Digest}
-use Rattle.sha256.specs.Hash.{padding, padded, out, sha256}
-use Rattle.sha256.specs.Running.{started, taken, digest}
+use Rattle.sha256.specs.Hash.{padding, out, sha256}
+use Rattle.sha256.specs.Running.{filled, rest, started, taken, digest}
 use Rattle.sha256.specs.Promises.{over, Gives, Starts, TakesIn, Finishes, Hashes}
 use Rattle.sha256.specs.Settled.{gives-settled, takes-in-settled}
-use Rattle.sha256.proofs.Running.{taken-twice}
-use Rattle.sha256.proofs.Padded.{digest-of}
+use Rattle.sha256.proofs.Running.{whole-rest, filled-taken, taken-twice}
 
 -- ---- the definitions
 
@@ -38,23 +37,27 @@ pub length-started : length (started .block) ≡ 64
 unfolding started
 length-started = refl
 
+-- the hash value after a message's whole blocks, and what they leave of it
+pub hashed : (m w r : List ℕ) → w ≡ whole H m → r ≡ out (whole w (rest m ++ padding (length m))) 8 → r ≡ sha256 m
+unfolding sha256
+hashed m w r ew er = er ∙ ap (λ (u : List ℕ). out (whole u (rest m ++ padding (length m))) 8) ew ∙ ap (λ (u : List ℕ). out u 8) (sym (whole-rest H m (padding (length m))))
+
 words-started : (m : List ℕ) → taken started m .words ≡ whole H m
 unfolding taken started
 words-started m = refl
 
+filled-started : (m : List ℕ) → filled (taken started m) ≡ rest m
+unfolding started
+filled-started m = filled-taken started length-started m
+
 -- start, take m in, finish: the standard's hash of m
 pub digest-taken : (m : List ℕ) → digest (taken started m) ≡ sha256 m
-unfolding sha256
+unfolding digest
 digest-taken m =
     let s : Sha = taken started m in
     let n : s .total ≡ length m = omega (arith, taken-total started m, started-total) in
-    digest-of s
-    ∙ ap (λ (t : Sha). out (t .words) 8) (taken-twice started m (padding (s .total)) length-started)
-    ∙ ap (λ (k : ℕ). out (taken started (m ++ padding k) .words) 8) n
-    ∙ ap (λ (w : List ℕ). out w 8) (words-started (padded m))
-
-pub hashed : (m d : List ℕ) (s t : Sha) → s ≡ started → t ≡ taken s m → d ≡ digest t → d ≡ sha256 m
-hashed m d s t es et ed = cc (digest-taken m)
+    let e : filled s ++ padding (s .total) ≡ rest m ++ padding (length m) = cc (filled-started m) in
+    hashed m (s .words) (digest s) (words-started m) (ap (λ (y : List ℕ). out (whole (s .words) y) 8) e)
 
 -- ---- the promises, where nothing is refused
 

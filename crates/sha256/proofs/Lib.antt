@@ -1,5 +1,5 @@
 pub mod Lists
 pub mod Running
-pub mod Padded
+pub mod Padding
 pub mod Answers
 pub mod Laws

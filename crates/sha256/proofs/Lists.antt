@@ -22,9 +22,9 @@ drop-replicate (suc k) zero x h = absurd (not-suc-le-zero h)
 drop-replicate (suc k) (suc n) x h = simp unary-clauses (drop-replicate k n x (le-of-suc-le-suc h))
 
 -- a turn of the loop that copies x
-pub put-more : (d x b : List ℕ) (at i : ℕ) → at + i < length d → i < length x → b ≡ paste d at x i
+pub copy-more : (d x b : List ℕ) (at i : ℕ) → at + i < length d → i < length x → b ≡ paste d at x i
     → set b (at + i) (getD x i 0) ≡ paste d at x (i + 1)
-put-more d x b at i hd hx e = rw (add-one, e) (paste-suc d at x i 0 hd hx)
+copy-more d x b at i hd hx e = rw (add-one, e) (paste-suc d at x i 0 hd hx)
 
 -- four elements stored behind the first k
 grown-4 : (l p : List ℕ) (k a b c d : ℕ) → k + 3 < length l → take k l ≡ p

@@ -4,7 +4,7 @@ use mathlib.Core.List.{List, [], _++_, append-assoc, append-nil}
 use Prim.Native.Nat.{ℕ, _+_, _-_, _*_, _/_, _%_, _≤_, _<_}
 use native.Mathlib.Omega.{arith}
 use lib.ListN.{length, take, drop, replicate, length-append, length-take, length-drop, length-replicate, take-append-drop, drop-of-length-le}
-use lib.Seq.{take-all, take-at, drop-append-add, length-take-le}
+use lib.Seq.{paste, take-all, take-length, take-at, drop-append-add, length-take-le}
 use Rattle.sha256_block.specs.Block.{whole}
 use Rattle.sha256_block.proofs.Laws.{whole-join, whole-short}
 use Rattle.sha256.specs.declared.Sha.{Sha}
@@ -15,6 +15,12 @@ use Rattle.sha256.proofs.Lists.{drop-replicate}
 
 pub length-rest : (y : List ℕ) → length (rest y) ≡ length y % 64
 length-rest y = rw length-drop (omega arith)
+
+-- the part of a slice that the code names so
+pub left-behind : (y : List ℕ) → take (length y - (length y - length y % 64)) (drop (length y - length y % 64) y) ≡ rest y
+left-behind y =
+    let e : length y - length y % 64 ≡ length y / 64 * 64 = omega arith in
+    ap (λ (n : ℕ). take (length y - n) (drop n y)) e ∙ take-all (length y - length y / 64 * 64) (rest y) (rw length-drop (omega arith))
 
 rest-join : (a b : List ℕ) → length a % 64 ≡ 0 → rest (a ++ b) ≡ rest b
 rest-join a b h =
@@ -46,6 +52,14 @@ whole-fore s y =
     let h : length (rest y) < 64 = omega (arith, length-rest y) in
     ap (λ (z : List ℕ). whole s z) (sym (fore-rest y)) ∙ whole-join s (fore y) (rest y) (length-fore y) ∙ whole-short (whole s (fore y)) (rest y) h
 
+-- bytes behind y meet what y's whole blocks leave
+pub whole-rest : (s y z : List ℕ) → whole s (y ++ z) ≡ whole (whole s y) (rest y ++ z)
+whole-rest s y z =
+    ap (λ (u : List ℕ). whole s (u ++ z)) (sym (fore-rest y))
+    ∙ ap (λ (u : List ℕ). whole s u) (append-assoc (fore y) (rest y) z)
+    ∙ whole-join s (fore y) (rest y ++ z) (length-fore y)
+    ∙ ap (λ (u : List ℕ). whole u (rest y ++ z)) (sym (whole-fore s y))
+
 -- ---- a block
 
 pub block-short : (y : List ℕ) → length y ≤ 64 → blockOf y ≡ y ++ replicate (64 - length y) 0
@@ -55,10 +69,10 @@ pub length-block : (y : List ℕ) → length (blockOf y) ≡ 64
 length-block y = simp (length-append, length-take, length-replicate) (omega arith)
 
 -- y stored at the start of a block of zeros
-pub block-stored : (y : List ℕ) → length y ≤ 64 → take 0 (replicate 64 0) ++ y ++ drop (0 + length y) (replicate 64 0) ≡ blockOf y
+pub block-stored : (y : List ℕ) → length y ≤ 64 → paste (replicate 64 0) 0 y (length y) ≡ blockOf y
 block-stored y h =
     let z : 0 + length y ≡ length y = omega arith in
-    ap (λ (n : ℕ). y ++ drop n (replicate 64 0)) z ∙ ap (λ (l : List ℕ). y ++ l) (drop-replicate (length y) 64 0 h) ∙ sym (block-short y h)
+    cc (take-length y, drop-replicate (length y) 64 0 h, block-short y h)
 
 pub block-cut : (y : List ℕ) → 64 ≤ length y → blockOf (take 64 y) ≡ blockOf y
 block-cut y h =
@@ -67,8 +81,7 @@ block-cut y h =
     cc (take-all 64 (take 64 y) (omega arith))
 
 -- x stored behind the bytes y at the start of a block
-pub block-joined : (y x : List ℕ) (n : ℕ) → length y ≡ n → n + length x ≤ 64
-    → take n (blockOf y) ++ x ++ drop (n + length x) (blockOf y) ≡ blockOf (y ++ x)
+pub block-joined : (y x : List ℕ) (n : ℕ) → length y ≡ n → n + length x ≤ 64 → paste (blockOf y) n x (length x) ≡ blockOf (y ++ x)
 block-joined y x n e h =
     let l : length (y ++ x) ≡ length y + length x = length-append y x in
     let b : blockOf y ≡ y ++ replicate (64 - length y) 0 = block-short y (omega arith) in
@@ -76,7 +89,7 @@ block-joined y x n e h =
     let k : n + length x ≡ length y + length x = omega arith in
     let d : drop (n + length x) (blockOf y) ≡ drop (length x) (replicate (64 - length y) 0) = cc (drop-append-add y (replicate (64 - length y) 0) (length x)) in
     let r : 64 - length y - length x ≡ 64 - length (y ++ x) = omega arith in
-    cc (drop-replicate (length x) (64 - length y) 0 (omega arith), block-short (y ++ x) (omega arith))
+    cc (take-length x, drop-replicate (length x) (64 - length y) 0 (omega arith), block-short (y ++ x) (omega arith))
 
 -- ---- the state
 
@@ -97,7 +110,7 @@ module _ (s : Sha) (el : length (s .block) ≡ 64) where
 
   -- enough bytes to fill it: f is the block with the first of them, z are the others, and v is what they leave
   pub taken-long : (x f w b z v : List ℕ) → 64 ≤ s .total % 64 + length x
-      → f ≡ filled s ++ take (64 - s .total % 64) x ++ drop (s .total % 64 + length (take (64 - s .total % 64) x)) (s .block)
+      → f ≡ paste (s .block) (s .total % 64) (take (64 - s .total % 64) x) (length (take (64 - s .total % 64) x))
       → z ≡ drop (64 - s .total % 64) x
       → w ≡ whole (whole (s .words) f) z
       → v ≡ drop (length x - (s .total % 64 + length x) % 64) x
@@ -118,7 +131,7 @@ module _ (s : Sha) (el : length (s .block) ≡ 64) where
       let lv : length (drop k x) < 64 = rw length-drop (omega arith) in
       let full : length (s .block) ≤ a + length (take o x) = omega arith in
       let ed : drop (a + length (take o x)) (s .block) ≡ [] = drop-of-length-le (s .block) full in
-      let fg : f ≡ g = ef ∙ ap (λ (l : List ℕ). g ++ l) ed ∙ append-nil g in
+      let fg : f ≡ g = cc (take-length (take o x), append-nil g) in
       let ey : y ≡ g ++ z = cc (append-assoc (filled s) (take o x) z, take-append-drop o x) in
       let ep : y ≡ p ++ drop k x = cc (append-assoc (filled s) (take k x) (drop k x), take-append-drop k x) in
       let ew′ : w ≡ whole (s .words) y = ew ∙ ap (λ (l : List ℕ). whole (whole (s .words) l) z) fg ∙ sym (whole-join (s .words) g z lg) ∙ ap (λ (l : List ℕ). whole (s .words) l) (sym ey) in

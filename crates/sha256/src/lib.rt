@@ -7,7 +7,10 @@ ghost use mathlib.Core.Path.{_≡_};
 ghost use mathlib.Core.Bool.{true, false};
 ghost use mathlib.Core.List.{_++_, []};
 ghost use Prim.Native.Nat.{_+_, _-_, _%_, _^_, _<_, _≤_};
-ghost use lib.ListN.{length, take, drop, replicate};
+ghost use lib.ListN.{length, take};
+ghost use lib.Seq.{paste};
+ghost use Rattle.sha256_block.specs.Block as B;
+ghost use Rattle.sha256.specs.Hash as D;
 ghost use Rattle.sha256.specs.Running as R;
 ghost use Rattle.sha256.specs.Promises as P;
 
@@ -70,17 +73,25 @@ fn over(total: u64, n: usize) -> bool
     false
 }
 
+// Stores the bytes x in the room from at on.
+fn copy(room: &mut [u8], at: usize, x: &[u8])
+    requires { ⌜ at + length (now x) ≤ length (now room) ⌝ }
+    ensures { λ _. ⌜ now (room .exit) ≡ paste (now (room .entry)) at (now (x .entry)) (length (now (x .entry))) ⌝ }
+{
+    let mut i = 0;
+    while i < x.len() {
+        room[at + i] = x[i];
+        i += 1;
+    }
+}
+
 // The block with the bytes x stored from at on.
 fn put(block: [u8; 64], at: usize, x: &[u8]) -> [u8; 64]
     requires { ⌜ at + length (now x) ≤ 64 ⌝ }
-    ensures { λ r. ⌜ r ≡ take at block ++ now (x .entry) ++ drop (at + length (now (x .entry))) block ⌝ }
+    ensures { λ r. ⌜ r ≡ paste block at (now (x .entry)) (length (now (x .entry))) ⌝ }
 {
     let mut b = block;
-    let mut i = 0;
-    while i < x.len() {
-        b[at + i] = x[i];
-        i += 1;
-    }
+    copy(&mut b, at, x);
     b
 }
 
@@ -100,6 +111,37 @@ fn part(block: [u8; 64], at: usize, x: &[u8]) -> [u8; 64]
     ensures { λ r. ⌜ r ≡ R.blockOf (take at block ++ now (x .entry)) ⌝ }
 {
     put(block_of(&block[..at]), at, x)
+}
+
+// How many bytes `at` bytes are with their padding: a block, or two if the length does not fit behind them.
+fn padded_size(at: usize) -> usize
+    requires { ⌜ at < 64 ⌝ }
+    ensures { λ r. ⌜ r ≡ at + 1 + D.zeros at + 8 ⌝ }
+{
+    if at < 56 { 64 } else { 128 }
+}
+
+// What is left behind the whole blocks of total bytes, with the padding behind it.
+fn padded(left: &[u8], total: u64) -> [u8; 128]
+    requires { ⌜ (length (now left) ≡ total % 64) × (total < 2 ^ 61) ⌝ }
+    ensures { λ r. ⌜ take (length (now (left .entry)) + 1 + D.zeros total + 8) r ≡ now (left .entry) ++ D.padding total ⌝ }
+{
+    let n = padded_size(left.len());
+    let b = output::be8(total * 8);
+    let mut p = [0u8; 128];
+    copy(&mut p, 0, left);
+    p[left.len()] = 0x80;
+    copy(&mut p, n - 8, &b);
+    p
+}
+
+// The digest of total bytes: their whole blocks have the hash value words, and the bytes behind those are left.
+fn last_digest(words: [u32; 8], left: &[u8], total: u64) -> [u8; 32]
+    requires { ⌜ (length (now left) ≡ total % 64) × (total < 2 ^ 61) ⌝ }
+    ensures { λ r. ⌜ r ≡ D.out (B.whole words (now (left .entry) ++ D.padding total)) 8 ⌝ }
+{
+    let p = padded(left, total);
+    output::out(sha256_block::blocks(words, &p[..padded_size(left.len())]))
 }
 
 impl Sha {
@@ -156,22 +198,6 @@ impl Sha {
         self.long(x)
     }
 
-    // The digest: the padding is taken in like any bytes.
-    fn close(self) -> [u8; 32]
-        requires { ⌜ self .total < 2 ^ 61 ⌝ }
-        ensures { λ r. ⌜ r ≡ R.digest self ⌝ }
-    {
-        let total = self.total;
-        let mut p = [0u8; 64];
-        p[0] = 0x80;
-        let n = ((119 - total % 64) % 64 + 1) as usize;
-        let s = self.absorb(&p[..n]);
-        let b = output::be8(total * 8);
-        let e = s.absorb(&b);
-        let w = e.words;
-        output::out(w)
-    }
-
     // The state with the bytes taken in; refused, and the state as it was, if there would be over 131,072 in all.
     pub fn take_in(mut self, bytes: &[u8]) -> Taken
         ensures { λ r. ⌜ P.TakesIn self (now (bytes .entry)) r ⌝ }
@@ -200,7 +226,10 @@ impl Sha {
         if self.total > LIMIT {
             return Digest::refused();
         }
-        Digest::given(self.close())
+        let at = (self.total % 64) as usize;
+        let block = self.block;
+        let words = self.words;
+        Digest::given(last_digest(words, &block[..at], self.total))
     }
 }
 
@@ -211,5 +240,7 @@ pub fn hash(message: &[u8]) -> Digest
     if message.len() as u64 > LIMIT {
         return Digest::refused();
     }
-    Digest::given(Sha::start().absorb(message).close())
+    let n = message.len();
+    let words = sha256_block::blocks(sha256_block::initial(), message);
+    Digest::given(last_digest(words, &message[n - n % 64..], n as u64))
 }

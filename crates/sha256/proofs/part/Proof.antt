@@ -1,10 +1,10 @@
 -- `sha256::part` meets its contract. Assumes nothing.
 use mathlib.Core.Path.{_≡_, ap, _∙_}
-use mathlib.Core.List.{List, _++_}
-use Prim.Native.Nat.{ℕ, _+_}
+use mathlib.Core.List.{List}
+use Prim.Native.Nat.{ℕ}
 use native.Mathlib.Omega.{arith}
-use lib.ListN.{length, take, drop, length-take}
-use lib.Seq.{length-take-le}
+use lib.ListN.{length, take, length-take}
+use lib.Seq.{paste, length-take-le}
 use Rattle.sha256.proofs.Running.{block-joined}
 use borrow.Author.Needs.{needs}
 use Rattle.sha256.proofs.part.Statement.{statement}
@@ -27,7 +27,7 @@ returns c =
     let z = c .before .before .before .before .args in
     let l : length (z .t1) ≡ 64 = search needs in
     c .put .ensures
-    ∙ ap (λ (b : List ℕ). take (z .at) b ++ z .x .now ++ drop (z .at + length (z .x .now)) b) (c .before .block-of .ensures)
+    ∙ ap (λ (b : List ℕ). paste b (z .at) (z .x .now) (length (z .x .now))) (c .before .block-of .ensures)
     ∙ block-joined (take (z .at) (z .t1)) (z .x .now) (z .at) (length-take-le (z .at) (z .t1) (omega arith)) (omega arith)
 
 pub part-spec : {M : Type 1} → statement M

@@ -1,4 +1,5 @@
 pub mod Words
 pub mod Functions
 pub mod Constants
+pub mod Roots
 pub mod Block

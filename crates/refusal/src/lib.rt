@@ -1,5 +1,7 @@
 // A refusal of the rules page, the page's refusal numbers under names, and the answer of a call that is done or refused.
 ghost use mathlib.Core.Path.{_≡_};
+ghost use mathlib.Core.List.{[], _∷_};
+ghost use Rattle.refusal.specs.Answers.{row};
 ghost use Rattle.refusal.specs.Numbers as S;
 
 // What was refused, and where: the place is 0 unless the page names one.
@@ -12,6 +14,13 @@ pub struct Refusal {
 pub enum Answer {
     Done,
     Refused(Refusal),
+}
+
+// Refused with a number for which the page names no place.
+pub fn refused(number: u8) -> Answer
+    ensures { λ r. ⌜ row r ≡ number ∷ 0 ∷ [] ⌝ }
+{
+    Answer::Refused(Refusal { number, place: 0 })
 }
 
 pub const MEMORY_SIZE: u8 = 1;

@@ -2,7 +2,6 @@
 mod output;
 
 use refusal::Answer;
-use refusal::Refusal;
 ghost use mathlib.Core.Path.{_≡_};
 ghost use mathlib.Core.Bool.{true, false};
 ghost use mathlib.Core.List.{_++_, []};
@@ -42,10 +41,7 @@ impl Digest {
         ensures { λ r. ⌜ P.Gives true [] r ⌝ }
     {
         Digest {
-            answer: Answer::Refused(Refusal {
-                number: refusal::LENGTH,
-                place: 0,
-            }),
+            answer: refusal::refused(refusal::LENGTH),
             bytes: [0u8; 32],
         }
     }
@@ -205,10 +201,7 @@ impl Sha {
         let total = self.total;
         if over(total, bytes.len()) {
             return Taken {
-                answer: Answer::Refused(Refusal {
-                    number: refusal::LENGTH,
-                    place: 0,
-                }),
+                answer: refusal::refused(refusal::LENGTH),
                 state: self,
             };
         }

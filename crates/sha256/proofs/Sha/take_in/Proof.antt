@@ -12,10 +12,13 @@ use Rattle.sha256.proofs.Sha.take_in.Tie as tie
 over-requires : tie.Need-over-requires
 over-requires c κs = search needs
 
+refused-requires : tie.Need-refused-requires
+refused-requires c κs = search needs
+
 returns : tie.Need-returns
 returns c =
-    let z = c .before .before .before .args in
-    takes-in-refused (z .self) (z .bytes .now) (sym (c .before .over .ensures) ∙ c .if1 .taken)
+    let z = c .before .before .before .before .args in
+    takes-in-refused (z .self) (z .bytes .now) (c .refused .result) (c .refused .ensures) (sym (c .before .before .over .ensures) ∙ c .before .if1 .taken)
 
 absorb-requires : tie.Need-absorb-requires
 absorb-requires c κs =
@@ -28,4 +31,5 @@ returns-2 c =
     takes-in-done (z .self) (z .bytes .now) (c .absorb .result) (sym (c .before .before .over .ensures) ∙ c .before .if1 .left) (c .absorb .ensures)
 
 pub take-in-spec : {M : Type 1} → statement M
-take-in-spec = tie.close (tie.spec over-requires returns absorb-requires returns-2)
+take-in-spec =
+    tie.close (tie.spec over-requires refused-requires returns absorb-requires returns-2)

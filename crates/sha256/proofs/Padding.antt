@@ -1,13 +1,13 @@
 -- The padding: that it is the standard's, and that `padded` writes it. Assumes nothing.
-use mathlib.Core.Path.{_≡_, refl, sym, ap, _∙_}
-use mathlib.Core.List.{List, [], _∷_, _++_, append-assoc}
+use mathlib.Core.Path.{_≡_, refl, ap, _∙_}
+use mathlib.Core.List.{List, _∷_, _++_, append-assoc}
 use Prim.Native.Nat.{ℕ, suc, _+_, _-_, _*_, _%_, _≤_, _<_}
 use native.Mathlib.Omega.{arith}
-use lib.ListN.{length, take, drop, set, replicate, length-append, length-replicate}
+use lib.ListN.{length, take, set, replicate, length-append, length-replicate}
 use lib.Seq.{paste, take-paste, take-length, take-append-add, set-at}
 use Rattle.sha256_block.specs.Words.{bytes}
 use Rattle.sha256_block.specs.Block.{whole}
-use Rattle.sha256.specs.Hash.{zeros, padding, out}
+use Rattle.sha256.specs.Hash.{zeros, padding, padded, out}
 use Rattle.sha256.proofs.Lists.{take-replicate, drop-replicate}
 
 -- 5.1.1 in bits: the zero bits behind the one bit, seven in its own byte, are the fewest k with n * 8 + 1 + k ≡ 448 modulo 512
@@ -17,9 +17,22 @@ zeros-fit n = omega arith
 pub zeros-fewest : (n k : ℕ) → (n * 8 + 1 + k) % 512 ≡ 448 → 7 + zeros n * 8 ≤ k
 zeros-fewest n k h = omega arith
 
-pub length-be8 : (b : List ℕ) (x : ℕ) → b ≡ bytes 8 x → length b ≡ 8
+length-bytes-8 : (x : ℕ) → length (bytes 8 x) ≡ 8
 unfolding bytes
-length-be8 b x e = ap length e
+length-bytes-8 x = refl
+
+length-padding : (n : ℕ) → length (padding n) ≡ suc (zeros n + 8)
+unfolding padding
+length-padding n =
+    ap suc
+    (length-append (replicate (zeros n) 0) (bytes 8 (n * 8)) ∙ cc (length-replicate {A = ℕ} (zeros n) 0, length-bytes-8 (n * 8)))
+
+-- 5.2.1: a message with its padding is whole blocks
+pub padded-whole : (m : List ℕ) → length (padded m) % 64 ≡ 0
+padded-whole m = omega (arith, length-append m (padding (length m)), length-padding (length m))
+
+pub length-be8 : (b : List ℕ) (x : ℕ) → b ≡ bytes 8 x → length b ≡ 8
+length-be8 b x e = ap length e ∙ length-bytes-8 x
 
 -- the bytes l, and zeros behind them to 128 bytes
 zeroed : List ℕ → List ℕ

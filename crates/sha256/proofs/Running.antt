@@ -3,7 +3,7 @@ use mathlib.Core.Path.{_≡_, sym, ap, _∙_}
 use mathlib.Core.List.{List, [], _++_, append-assoc, append-nil}
 use Prim.Native.Nat.{ℕ, _+_, _-_, _*_, _/_, _%_, _≤_, _<_}
 use native.Mathlib.Omega.{arith}
-use lib.ListN.{length, take, drop, replicate, length-append, length-take, length-drop, length-replicate, take-append-drop, drop-of-length-le}
+use lib.ListN.{length, take, drop, replicate, length-append, length-drop, take-append-drop, drop-of-length-le}
 use lib.Seq.{paste, take-all, take-length, take-at, drop-append-add, length-take-le}
 use Rattle.sha256_block.specs.Block.{whole}
 use Rattle.sha256_block.proofs.Laws.{whole-join, whole-short}
@@ -60,13 +60,16 @@ whole-rest s y z =
     ∙ whole-join s (fore y) (rest y ++ z) (length-fore y)
     ∙ ap (λ (u : List ℕ). whole u (rest y ++ z)) (sym (whole-fore s y))
 
+rest-rest : (y z : List ℕ) → rest (y ++ z) ≡ rest (rest y ++ z)
+rest-rest y z =
+    ap (λ (u : List ℕ). rest (u ++ z)) (sym (fore-rest y))
+    ∙ ap rest (append-assoc (fore y) (rest y) z)
+    ∙ rest-join (fore y) (rest y ++ z) (length-fore y)
+
 -- ---- a block
 
 pub block-short : (y : List ℕ) → length y ≤ 64 → blockOf y ≡ y ++ replicate (64 - length y) 0
 block-short y h = ap (λ (z : List ℕ). z ++ replicate (64 - length y) 0) (take-all 64 y h)
-
-pub length-block : (y : List ℕ) → length (blockOf y) ≡ 64
-length-block y = simp (length-append, length-take, length-replicate) (omega arith)
 
 -- y stored at the start of a block of zeros
 pub block-stored : (y : List ℕ) → length y ≤ 64 → paste (replicate 64 0) 0 y (length y) ≡ blockOf y
@@ -153,17 +156,6 @@ pub taken-twice : (s : Sha) (a b : List ℕ) → length (s .block) ≡ 64 → ta
 unfolding taken
 taken-twice s a b el =
     let y : List ℕ = filled s ++ a in
-    let r : List ℕ = rest y in
-    let f : filled (taken s a) ≡ r = filled-taken s el a in
-    let all : filled s ++ (a ++ b) ≡ fore y ++ (r ++ b) = sym (append-assoc (filled s) a b) ∙ ap (λ (l : List ℕ). l ++ b) (sym (fore-rest y)) ∙ append-assoc (fore y) r b in
-    let ew : whole (whole (s .words) y) (filled (taken s a) ++ b) ≡ whole (s .words) (filled s ++ (a ++ b)) =
-    ap (λ (l : List ℕ). whole l (filled (taken s a) ++ b)) (whole-fore (s .words) y)
-    ∙ ap (λ (l : List ℕ). whole (whole (s .words) (fore y)) (l ++ b)) f
-    ∙ sym (whole-join (s .words) (fore y) (r ++ b) (length-fore y))
-    ∙ ap (λ (l : List ℕ). whole (s .words) l) (sym all) in
-    let er : rest (filled (taken s a) ++ b) ≡ rest (filled s ++ (a ++ b)) =
-    ap (λ (l : List ℕ). rest (l ++ b)) f ∙ sym (rest-join (fore y) (r ++ b) (length-fore y)) ∙ ap rest (sym all) in
-    let et : s .total + length a + length b ≡ s .total + length (a ++ b) = omega (arith, length-append a b) in
-    ap (λ (l : List ℕ). record { words = l; block = blockOf (rest (filled (taken s a) ++ b)); total = s .total + length a + length b }) ew
-    ∙ ap (λ (l : List ℕ). record { words = whole (s .words) (filled s ++ (a ++ b)); block = blockOf l; total = s .total + length a + length b }) er
-    ∙ ap (λ (n : ℕ). record { words = whole (s .words) (filled s ++ (a ++ b)); block = blockOf (rest (filled s ++ (a ++ b))); total = n }) et
+    let f : filled (taken s a) ≡ rest y = filled-taken s el a in
+    let n : s .total + length a + length b ≡ s .total + length (a ++ b) = omega (arith, length-append a b) in
+    cc (whole-rest (s .words) y b, rest-rest y b, append-assoc (filled s) a b)

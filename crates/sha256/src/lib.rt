@@ -5,7 +5,7 @@ use refusal::Answer;
 ghost use mathlib.Core.Path.{_≡_};
 ghost use mathlib.Core.Bool.{true, false};
 ghost use mathlib.Core.List.{_++_, []};
-ghost use Prim.Native.Nat.{_+_, _-_, _%_, _^_, _<_, _≤_};
+ghost use Prim.Native.Nat.{_+_, _%_, _^_, _<_, _≤_};
 ghost use lib.ListN.{length, take};
 ghost use lib.Seq.{paste};
 ghost use Rattle.sha256_block.specs.Block as B;
@@ -37,6 +37,7 @@ pub struct Digest {
 }
 
 impl Digest {
+    // Refusal 12.
     pub fn refused() -> Digest
         ensures { λ r. ⌜ P.Gives true [] r ⌝ }
     {
@@ -46,6 +47,7 @@ impl Digest {
         }
     }
 
+    // These bytes.
     pub fn given(bytes: [u8; 32]) -> Digest
         ensures { λ r. ⌜ P.Gives false bytes r ⌝ }
     {
@@ -141,6 +143,7 @@ fn last_digest(words: [u32; 8], left: &[u8], total: u64) -> [u8; 32]
 }
 
 impl Sha {
+    // Before any byte.
     pub fn start() -> Sha
         ensures { λ r. ⌜ P.Starts r ⌝ }
     {

@@ -13,18 +13,15 @@
 enum { LONGEST = 131072, ROUNDS = 100 };
 static const double SLICE = 0.002; // seconds: a turn is at least this long, and still much shorter than a time slice
 
-// The Rattle function of crates/speed; a &[u8] is a pointer and a length.
-uint32_t speed_hash(const uint8_t *message, size_t length);
+// The Rattle function of crates/speed; a slice is a pointer and a length.
+void speed_hash(const uint8_t *message, size_t length, uint8_t *room, size_t room_length);
 void plain_gcc(const uint8_t *message, size_t length, uint8_t digest[32]);
 void plain_clang(const uint8_t *message, size_t length, uint8_t digest[32]);
 void rustcrypto_sha256(const uint8_t *message, size_t length, uint8_t digest[32]);
 
-// Only the first four bytes of our digest cross the boundary to C.
 static void ours(const uint8_t *message, size_t length, uint8_t digest[32])
 {
-    uint32_t word = speed_hash(message, length);
-    for (int i = 0; i < 4; i++)
-        digest[i] = (uint8_t)(word >> (24 - 8 * i));
+    speed_hash(message, length, digest, 32);
 }
 
 static void libsodium(const uint8_t *message, size_t length, uint8_t digest[32])
@@ -40,16 +37,15 @@ static void openssl(const uint8_t *message, size_t length, uint8_t digest[32])
 static const struct {
     const char *name;
     void (*hash)(const uint8_t *, size_t, uint8_t[32]);
-    size_t digest_bytes; // how many bytes of the digest it hands out
 } all[] = {
-    {"ours", ours, 4},
-    {"plain C, gcc", plain_gcc, 32},
+    {"ours", ours},
+    {"plain C, gcc", plain_gcc},
 #ifdef WITH_CLANG
-    {"plain C, clang", plain_clang, 32},
+    {"plain C, clang", plain_clang},
 #endif
-    {"RustCrypto, soft", rustcrypto_sha256, 32},
-    {"libsodium", libsodium, 32},
-    {"OpenSSL", openssl, 32},
+    {"RustCrypto, soft", rustcrypto_sha256},
+    {"libsodium", libsodium},
+    {"OpenSSL", openssl},
 };
 enum { COUNT = sizeof all / sizeof *all };
 
@@ -68,7 +64,7 @@ static void check_length(size_t length)
     for (int i = 0; i < COUNT; i++) {
         memset(digest, 0, sizeof digest);
         all[i].hash(message, length, digest);
-        if (memcmp(digest, expected, all[i].digest_bytes) != 0) {
+        if (memcmp(digest, expected, sizeof digest) != 0) {
             fprintf(stderr, "measure: %s and OpenSSL differ on a message of %zu bytes\n", all[i].name, length);
             exit(1);
         }

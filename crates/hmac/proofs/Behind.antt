@@ -9,18 +9,19 @@ use Rattle.sha256.specs.declared.Taken.{Taken}
 use Rattle.sha256.specs.declared.Digest.{Digest}
 use Rattle.sha256.specs.Hash.{sha256}
 use Rattle.sha256.specs.Running.{started, taken, digest}
-use Rattle.sha256.specs.Promises.{Starts, TakesIn, Finishes}
+use Rattle.sha256.specs.Promises.{limit, Starts, TakesIn, Finishes}
 use Rattle.sha256.proofs.Running.{taken-twice}
+use Rattle.hmac.specs.Promises.{most}
 use Rattle.sha256.proofs.Laws.{started-total, taken-total, length-started, digest-taken, over-not, gives-bytes, takes-in-state}
 
-pub behind : (b m : List ℕ) (s : Sha) (r q : Taken) (d : Digest) → length b ≡ 64 → length m ≤ 65536
+pub behind : (b m : List ℕ) (s : Sha) (r q : Taken) (d : Digest) → length b ≡ 64 → length m ≤ most
     → Starts s → TakesIn s b r → TakesIn (r .state) m q → Finishes (q .state) d → d .bytes ≡ sha256 (b ++ m)
 behind b m s r q d lb lm es pr pq pd =
     let z : s .total ≡ 0 = ap (λ (t : Sha). t .total) es ∙ started-total in
     let er : r .state ≡ taken started b = takes-in-state pr (omega arith) ∙ ap (λ (t : Sha). taken t b) es in
     let tr : r .state .total ≡ 64 = omega (arith, ap (λ (t : Sha). t .total) er ∙ taken-total started b, started-total) in
     let eq : q .state ≡ taken (r .state) m = takes-in-state pq (omega arith) in
-    let tq : q .state .total ≤ 131072 = omega (arith, ap (λ (t : Sha). t .total) eq ∙ taken-total (r .state) m) in
+    let tq : q .state .total ≤ limit = omega (arith, ap (λ (t : Sha). t .total) eq ∙ taken-total (r .state) m) in
     gives-bytes pd (over-not (q .state .total) tq)
     ∙ ap digest (eq ∙ ap (λ (t : Sha). taken t m) er ∙ taken-twice started b m length-started)
     ∙ digest-taken (b ++ m)

@@ -8,9 +8,13 @@ use Rattle.sha256.specs.declared.Digest.{Digest}
 use Rattle.sha256.specs.Promises.{Gives}
 use Rattle.hmac.specs.Hmac.{hmac}
 
--- HMAC takes a key and a message of 0 to 65,536 bytes: l is too long
+-- HMAC takes a key and a message of 0 to 65,536 bytes each
+abbrev pub most : ℕ
+most = 65536
+
+-- l is too long
 abbrev pub long : List ℕ → Bool
-long l = ltb 65536 (length l)
+long l = ltb most (length l)
 
 -- `mac`: refused exactly if the key or the message is too long
 abbrev pub Macs : List ℕ → List ℕ → Digest → Type 0

@@ -18,7 +18,7 @@ const OPAD: u8 = 0x5c;
 
 // The key as one block: a key over 64 bytes is hashed first.
 fn key_block(key: &[u8]) -> [u8; 64]
-    requires { ⌜ length (now key) ≤ 65536 ⌝ }
+    requires { ⌜ length (now key) ≤ P.most ⌝ }
     ensures { λ r. ⌜ r ≡ S.k0 (now (key .entry)) ⌝ }
 {
     if key.len() > 64 {
@@ -44,7 +44,7 @@ fn mask(block: [u8; 64], x: u8) -> [u8; 64]
 
 // The hash of a block and the message behind it. The message is hashed where it stands.
 fn hash_behind(block: [u8; 64], message: &[u8]) -> [u8; 32]
-    requires { ⌜ length (now message) ≤ 65536 ⌝ }
+    requires { ⌜ length (now message) ≤ P.most ⌝ }
     ensures { λ r. ⌜ r ≡ sha256 (block ++ now (message .entry)) ⌝ }
 {
     let first = Sha::start().take_in(&block);
@@ -56,7 +56,7 @@ fn hash_behind(block: [u8; 64], message: &[u8]) -> [u8; 32]
 }
 
 fn mac_of(key: &[u8], message: &[u8]) -> [u8; 32]
-    requires { ⌜ (length (now key) ≤ 65536) × (length (now message) ≤ 65536) ⌝ }
+    requires { ⌜ (length (now key) ≤ P.most) × (length (now message) ≤ P.most) ⌝ }
     ensures { λ r. ⌜ r ≡ S.hmac (now (key .entry)) (now (message .entry)) ⌝ }
 {
     let k = key_block(key);

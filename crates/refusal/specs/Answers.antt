@@ -6,11 +6,19 @@ use Rattle.refusal.specs.Choice.{pick}
 use Rattle.refusal.specs.declared.Answer.{Answer}
 use Rattle.refusal.specs.declared.Answer.the-variants.{Done, Refused}
 
--- 0 for a call that is done; the number and the place of a refusal
+-- the row of a call that is done
+abbrev pub done : List ℕ
+done = 0 ∷ []
+
+-- the row of a refusal for which the page names no place
+abbrev pub refusedWith : ℕ → List ℕ
+refusedWith n = n ∷ 0 ∷ []
+
+-- an answer's row: 0, or the refusal's number and place
 abbrev pub row : Answer → List ℕ
-row Done = 0 ∷ []
+row Done = done
 row (Refused r) = r .number ∷ r .place ∷ []
 
--- the row of a call that is refused with the number n, and place 0, exactly if t holds
+-- the row of a call that is refused with the number n exactly if t holds
 abbrev pub refusedIf : Bool → ℕ → List ℕ
-refusedIf t n = pick t (n ∷ 0 ∷ []) (0 ∷ [])
+refusedIf t n = pick t (refusedWith n) done

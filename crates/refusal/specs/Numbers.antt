@@ -48,8 +48,8 @@ abbrev pub tokenDiffers : ℕ
 tokenDiffers = 11
 
 -- a length of key, challenge, token, reply, region or message, or a running total
-abbrev pub lengths : ℕ
-lengths = 12
+abbrev pub lengthOrTotal : ℕ
+lengthOrTotal = 12
 
 -- contents of a run file
 abbrev pub contents : ℕ
@@ -67,4 +67,4 @@ fileSize = 15
 abbrev pub numbers : List ℕ
 numbers =
     memorySize ∷ layoutSize ∷ regionReversed ∷ regionSize ∷ zeroInCode ∷ regionsShare ∷ traceSize ∷ roomSize ∷ stepNotZero
-    ∷ challengeNotGreater ∷ tokenDiffers ∷ lengths ∷ contents ∷ segment ∷ fileSize ∷ []
+    ∷ challengeNotGreater ∷ tokenDiffers ∷ lengthOrTotal ∷ contents ∷ segment ∷ fileSize ∷ []

@@ -1,7 +1,6 @@
 // A refusal of the rules page, the page's refusal numbers under names, and the answer of a call that is done or refused.
 ghost use mathlib.Core.Path.{_≡_};
-ghost use mathlib.Core.List.{[], _∷_};
-ghost use Rattle.refusal.specs.Answers.{row};
+ghost use Rattle.refusal.specs.Answers.{row, refusedWith};
 ghost use Rattle.refusal.specs.Numbers as S;
 
 // What was refused, and where: the place is 0 unless the page names one.
@@ -18,7 +17,7 @@ pub enum Answer {
 
 // Refused with a number for which the page names no place.
 pub fn refused(number: u8) -> Answer
-    ensures { λ r. ⌜ row r ≡ number ∷ 0 ∷ [] ⌝ }
+    ensures { λ r. ⌜ row r ≡ refusedWith number ⌝ }
 {
     Answer::Refused(Refusal { number, place: 0 })
 }
@@ -45,7 +44,7 @@ pub const CHALLENGE_NOT_GREATER: u8 = 10;
 
 pub const TOKEN_DIFFERS: u8 = 11;
 
-pub const LENGTH: u8 = 12;
+pub const LENGTH_OR_TOTAL: u8 = 12;
 
 pub const CONTENTS: u8 = 13;
 
@@ -69,7 +68,7 @@ pub fn numbers() -> [u8; 15]
         STEP_NOT_ZERO,
         CHALLENGE_NOT_GREATER,
         TOKEN_DIFFERS,
-        LENGTH,
+        LENGTH_OR_TOTAL,
         CONTENTS,
         SEGMENT,
         FILE_SIZE,

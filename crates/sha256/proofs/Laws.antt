@@ -1,12 +1,12 @@
 -- The laws of the hash, for readers and for the crates above. Assumes nothing.
 use mathlib.Core.Path.{_≡_, refl, sym, ap, subst, _∙_}
 use mathlib.Core.Bool.{Bool, false}
-use mathlib.Core.List.{List, [], _∷_, _++_}
+use mathlib.Core.List.{List, _++_}
 use Prim.Native.Nat.{ℕ, _+_, _≤_}
 use native.Mathlib.Omega.{arith}
 use borrow.Author.Tests.{le-ltb}
 use lib.ListN.{length, length-append}
-use Rattle.refusal.specs.Answers.{row}
+use Rattle.refusal.specs.Answers.{row, done}
 use Rattle.sha256_block.specs.Words.{bytes}
 use Rattle.sha256_block.specs.Constants.{H}
 use Rattle.sha256_block.specs.Block.{whole}
@@ -15,7 +15,7 @@ use Rattle.sha256.specs.declared.Taken.{Taken}
 use Rattle.sha256.specs.declared.Digest.{Digest}
 use Rattle.sha256.specs.Hash.{padding, out, sha256}
 use Rattle.sha256.specs.Running.{filled, rest, started, taken, digest}
-use Rattle.sha256.specs.Promises.{over, Gives, Starts, TakesIn, Finishes, Hashes}
+use Rattle.sha256.specs.Promises.{limit, over, Gives, Starts, TakesIn, Finishes, Hashes}
 use Rattle.sha256.specs.Settled.{gives-settled, takes-in-settled}
 use Rattle.sha256.proofs.Running.{whole-rest, filled-taken, taken-twice}
 
@@ -61,33 +61,33 @@ digest-taken m =
 
 -- ---- the promises, where nothing is refused
 
-pub over-not : (n : ℕ) → n ≤ 131072 → over n ≡ false
-over-not n h = le-ltb 131072 n h
+pub over-not : (n : ℕ) → n ≤ limit → over n ≡ false
+over-not n h = le-ltb limit n h
 
 pub gives-bytes : {t : Bool} {b : List ℕ} {r : Digest} → Gives t b r → t ≡ false → r .bytes ≡ b
 gives-bytes p e = rw e at (p .given)
 
-module _ {s : Sha} {x : List ℕ} {r : Taken} (p : TakesIn s x r) (h : s .total + length x ≤ 131072) where
+module _ {s : Sha} {x : List ℕ} {r : Taken} (p : TakesIn s x r) (h : s .total + length x ≤ limit) where
   pub takes-in-state : r .state ≡ taken s x
   takes-in-state = rw (over-not (s .total + length x) h) at (p .handed)
 
-  takes-in-row : row (r .answer) ≡ 0 ∷ []
+  takes-in-row : row (r .answer) ≡ done
   takes-in-row = rw (over-not (s .total + length x) h) at (p .answered)
 
 -- taking a in and then b is taking a ++ b in
-pub takes-in-twice : {s : Sha} {a b : List ℕ} {r q u : Taken} → length (s .block) ≡ 64 → s .total + length (a ++ b) ≤ 131072
+pub takes-in-twice : {s : Sha} {a b : List ℕ} {r q u : Taken} → length (s .block) ≡ 64 → s .total + length (a ++ b) ≤ limit
     → TakesIn s a r → TakesIn (r .state) b q → TakesIn s (a ++ b) u → q ≡ u
 takes-in-twice {s} {a} {b} {r} {q} {u} el h p p′ z =
     let l : length (a ++ b) ≡ length a + length b = length-append a b in
     let g : TakesIn (taken s a) b q = subst (λ (t : Sha). TakesIn t b q) (takes-in-state p (omega arith)) p′ in
-    let n : taken s a .total + length b ≤ 131072 = omega (arith, taken-total s a) in
+    let n : taken s a .total + length b ≤ limit = omega (arith, taken-total s a) in
     let o : over (s .total + length (a ++ b)) ≡ false = over-not (s .total + length (a ++ b)) h in
     takes-in-settled q u
     (record { answered = rw o (takes-in-row g n); handed = rw o (takes-in-state g n ∙ taken-twice s a b el) })
     z
 
 -- start, take m in, finish: what `hash` answers
-pub hashes-running : {m : List ℕ} {s : Sha} {r : Taken} {d e : Digest} → length m ≤ 131072
+pub hashes-running : {m : List ℕ} {s : Sha} {r : Taken} {d e : Digest} → length m ≤ limit
     → Starts s → TakesIn s m r → Finishes (r .state) d → Hashes m e → d ≡ e
 hashes-running {m} {s} {r} {d} {e} h p q f z =
     let z₀ : s .total ≡ 0 = ap (λ (t : Sha). t .total) p ∙ started-total in

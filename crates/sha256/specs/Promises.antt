@@ -7,7 +7,7 @@ use mathlib.Core.List.{List}
 use Prim.Native.Nat.{ℕ, _+_}
 use lib.Dec.{ltb}
 use lib.ListN.{length, replicate}
-use Rattle.refusal.specs.Numbers.{lengths}
+use Rattle.refusal.specs.Numbers.{lengthOrTotal}
 use Rattle.refusal.specs.Choice.{pick}
 use Rattle.refusal.specs.Answers.{row, refusedIf}
 use Rattle.sha256.specs.declared.Sha.{Sha}
@@ -16,13 +16,17 @@ use Rattle.sha256.specs.declared.Digest.{Digest}
 use Rattle.sha256.specs.Hash.{sha256}
 use Rattle.sha256.specs.Running.{started, taken, digest}
 
--- the hash takes 0 to 131,072 bytes: n are too many
+-- the hash takes 0 to 131,072 bytes
+abbrev pub limit : ℕ
+limit = 131072
+
+-- n bytes are too many
 abbrev pub over : ℕ → Bool
-over n = ltb 131072 n
+over n = ltb limit n
 
 -- refused with 12 exactly if t holds, and then zeros; else the bytes b
 pub record Gives (t : Bool) (b : List ℕ) (r : Digest) : Type 0 where
-  pub answered : row (r .answer) ≡ refusedIf t lengths
+  pub answered : row (r .answer) ≡ refusedIf t lengthOrTotal
   pub given : r .bytes ≡ pick t (replicate 32 0) b
 
 -- `Sha::start`
@@ -31,7 +35,7 @@ Starts r = r ≡ started
 
 -- `Sha::take_in`: refused exactly if the total with the new bytes is over the limit, and then the state is handed back as it was
 pub record TakesIn (s : Sha) (x : List ℕ) (r : Taken) : Type 0 where
-  pub answered : row (r .answer) ≡ refusedIf (over (s .total + length x)) lengths
+  pub answered : row (r .answer) ≡ refusedIf (over (s .total + length x)) lengthOrTotal
   pub handed : r .state ≡ pick (over (s .total + length x)) s (taken s x)
 
 -- `Sha::finish`: refused exactly if the total is over the limit

@@ -42,7 +42,7 @@ impl Digest {
         ensures { λ r. ⌜ P.Gives true [] r ⌝ }
     {
         Digest {
-            answer: refusal::refused(refusal::LENGTH),
+            answer: refusal::refused(refusal::LENGTH_OR_TOTAL),
             bytes: [0u8; 32],
         }
     }
@@ -204,7 +204,7 @@ impl Sha {
         let total = self.total;
         if over(total, bytes.len()) {
             return Taken {
-                answer: refusal::refused(refusal::LENGTH),
+                answer: refusal::refused(refusal::LENGTH_OR_TOTAL),
                 state: self,
             };
         }

@@ -1,11 +1,11 @@
 -- FIPS 180-4, 4.1.2: SHA-256's six functions on words. Assumes nothing.
-use Prim.Native.Nat.{ℕ, _-_, _^_}
+use Prim.Native.Nat.{ℕ}
 use lib.Bits.{bitAnd, bitXor}
-use Rattle.sha256_block.specs.Words.{shr, rotr}
+use Rattle.sha256_block.specs.Words.{complement, shr, rotr}
 
 -- (4.2)
 abbrev pub ch : ℕ → ℕ → ℕ → ℕ
-ch x y z = bitXor (bitAnd x y) (bitAnd (2 ^ 32 - 1 - x) z)
+ch x y z = bitXor (bitAnd x y) (bitAnd (complement x) z)
 
 -- (4.3)
 abbrev pub maj : ℕ → ℕ → ℕ → ℕ

@@ -19,14 +19,18 @@ unfoldable pub bytes : ℕ → ℕ → List ℕ
 bytes zero x = []
 bytes (suc n) x = x / 2 ^ (n * 8) % 2 ^ 8 ∷ bytes n x
 
--- 3.2, 1: the sum of two words, modulo 2 ^ 32
+-- 3.2, 1: AND, OR and XOR of words are the library's on the bits of numbers; this is NOT
+abbrev pub complement : ℕ → ℕ
+complement x = 2 ^ 32 - 1 - x
+
+-- 3.2, 2: the sum of two words, modulo 2 ^ 32
 unfoldable pub add : ℕ → ℕ → ℕ
 add x y = (x + y) % 2 ^ 32
 
--- 3.2, 2: x shifted right by n, SHR
+-- 3.2, 3: x shifted right by n, SHR
 abbrev pub shr : ℕ → ℕ → ℕ
 shr n x = x / 2 ^ n
 
--- 3.2, 3: x rotated right by n, ROTR
+-- 3.2, 4: x rotated right by n, ROTR
 abbrev pub rotr : ℕ → ℕ → ℕ
-rotr n x = bitOr (x / 2 ^ n) (x * 2 ^ (32 - n) % 2 ^ 32)
+rotr n x = bitOr (shr n x) (x * 2 ^ (32 - n) % 2 ^ 32)

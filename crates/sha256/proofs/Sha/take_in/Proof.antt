@@ -4,6 +4,7 @@ use Prim.Native.Nat.{_+_}
 use native.Mathlib.Omega.{arith}
 use borrow.Author.Tests.{ltb-false}
 use lib.ListN.{length}
+use Rattle.sha256.specs.Promises.{limit}
 use Rattle.sha256.proofs.Answers.{takes-in-refused, takes-in-done}
 use borrow.Author.Needs.{needs}
 use Rattle.sha256.proofs.Sha.take_in.Statement.{statement}
@@ -23,7 +24,7 @@ returns c =
 absorb-requires : tie.Need-absorb-requires
 absorb-requires c κs =
     let z = c .before .before .before .args in
-    omega (arith, ltb-false 131072 (z .self .total + length (z .bytes .now)) (sym (c .before .over .ensures) ∙ c .if1 .left))
+    omega (arith, ltb-false limit (z .self .total + length (z .bytes .now)) (sym (c .before .over .ensures) ∙ c .if1 .left))
 
 returns-2 : tie.Need-returns-2
 returns-2 c =

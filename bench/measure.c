@@ -15,6 +15,7 @@ static const double SLICE = 0.002; // seconds: a turn is at least this long, and
 
 // The Rattle function of crates/speed; a slice is a pointer and a length.
 void speed_hash(const uint8_t *message, size_t length, uint8_t *room, size_t room_length);
+void plain_kit(const uint8_t *message, size_t length, uint8_t digest[32]);
 void plain_gcc(const uint8_t *message, size_t length, uint8_t digest[32]);
 void plain_clang(const uint8_t *message, size_t length, uint8_t digest[32]);
 void rustcrypto_sha256(const uint8_t *message, size_t length, uint8_t digest[32]);
@@ -39,6 +40,7 @@ static const struct {
     void (*hash)(const uint8_t *, size_t, uint8_t[32]);
 } all[] = {
     {"ours", ours},
+    {"plain C, kit's clang", plain_kit},
     {"plain C, gcc", plain_gcc},
 #ifdef WITH_CLANG
     {"plain C, clang", plain_clang},

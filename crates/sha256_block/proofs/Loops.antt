@@ -35,9 +35,20 @@ schedule-more m w n x h inv e =
     let at : (i : ℕ) → i < n + 16 → getD w i 0 ≡ getD p i 0 = λ i l. sym (getD-take (n + 16) w i 0 l) in
     cc (grown w p (n + 16) x h refl, schedule-next m n, at (n + 14) (omega arith), at (n + 9) (omega arith), at (n + 1) (omega arith), at n (omega arith))
 
-pub rounds-next : (w : List ℕ) (v : Vars) (t : ℕ) → rounds w v (t + 1) ≡ round (getD K t 0) (getD w t 0) (rounds w v t)
+rounds-next : (w : List ℕ) (v : Vars) (t : ℕ) → rounds w v (t + 1) ≡ round (getD K t 0) (getD w t 0) (rounds w v t)
 unfolding rounds
 rounds-next w v t = rw add-one
+
+-- four rounds are one turn
+pub rounds-four : (k w : List ℕ) (v₀ v v1 v2 v3 v4 : Vars) (t : ℕ) → k ≡ K → v ≡ rounds w v₀ t
+    → v1 ≡ round (getD k t 0) (getD w t 0) v → v2 ≡ round (getD k (t + 1) 0) (getD w (t + 1) 0) v1
+    → v3 ≡ round (getD k (t + 2) 0) (getD w (t + 2) 0) v2 → v4 ≡ round (getD k (t + 3) 0) (getD w (t + 3) 0) v3
+    → v4 ≡ rounds w v₀ (t + 4)
+rounds-four k w v₀ v v1 v2 v3 v4 t ek e e1 e2 e3 e4 =
+    let n2 : t + 1 + 1 ≡ t + 2 = omega arith in
+    let n3 : t + 2 + 1 ≡ t + 3 = omega arith in
+    let n4 : t + 3 + 1 ≡ t + 4 = omega arith in
+    cc (rounds-next w v₀ t, rounds-next w v₀ (t + 1), rounds-next w v₀ (t + 2), rounds-next w v₀ (t + 3))
 
 blocks-next : (s m : List ℕ) (n : ℕ) → blocks s m (n + 1) ≡ compress (blocks s m n) (take 64 (drop (n * 64) m))
 unfolding blocks

@@ -112,7 +112,8 @@ fn round(k: u32, w: u32, v: Vars) -> Vars
     }
 }
 
-// The 64 rounds. The constants are lent: read from the table itself, each round would build it anew.
+// The 64 rounds. The constants are lent: read from the table itself, each round would build it anew. Four rounds make a
+// turn, so that the variables are moved on once for the four.
 fn rounds(k: &[u32; 64], w: &[u32; 64], v: Vars) -> Vars
     requires { ⌜ now k ≡ C.K ⌝ }
     ensures { λ r. ⌜ r ≡ B.rounds (now (w .entry)) v 64 ⌝ }
@@ -121,7 +122,10 @@ fn rounds(k: &[u32; 64], w: &[u32; 64], v: Vars) -> Vars
     let mut t = 0;
     while t < 64 {
         u = round(k[t], w[t], u);
-        t += 1;
+        u = round(k[t + 1], w[t + 1], u);
+        u = round(k[t + 2], w[t + 2], u);
+        u = round(k[t + 3], w[t + 3], u);
+        t += 4;
     }
     u
 }

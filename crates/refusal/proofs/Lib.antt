@@ -1,1 +1,3 @@
 pub mod Tests
+pub mod First
+pub mod Order

@@ -1,4 +1,5 @@
 pub mod Numbers
 pub mod Choice
+pub mod First
 pub mod Answers
 pub mod Settled

@@ -1,0 +1,10 @@
+pub mod Marked
+pub mod Exposed
+pub mod Runs
+pub mod Traces
+pub mod Vrased
+pub mod Memories
+pub mod Demand3
+pub mod Demand3Calls
+pub mod Exact
+pub mod Witness

@@ -1,0 +1,78 @@
+-- A witness that demand 3 is about something: two calls with different keys, scratch and bytes stored there, in which bytes
+-- are exposed, the mailbox is used and steps reset. proofs/Witness.antt has the proof. Assumes nothing.
+use mathlib.Core.Path.{_≡_}
+use mathlib.Core.List.{List, [], _∷_, _++_}
+use Prim.Native.Nat.{ℕ}
+use lib.ListN.{getD, replicate}
+use Rattle.layout.specs.Layouts.{layoutOf}
+use Rattle.monitor.specs.declared.Traced.the-variants.{Judged}
+use Rattle.monitor.specs.Promises.{Traces}
+use Rattle.demands.specs.Demand3.{Agree, SameTrace}
+
+-- a region in the first 256 addresses
+abbrev pub region : ℕ → ℕ → List ℕ
+region lo hi = lo ∷ 0 ∷ hi ∷ 0 ∷ []
+
+-- CR, KR, XS, MR, CTR, AR
+abbrev pub layout : List ℕ
+layout = region 0x01 0x02 ++ region 0x09 0x48 ++ region 0x03 0x04 ++ region 0x49 0xa8 ++ region 0xa9 0xc8 ++ region 0x05 0x08
+
+unfoldable pub zeros : List ℕ
+zeros = replicate 65462 0
+
+-- a memory: XS has these two bytes, AR 11 22 33 44, KR one byte 64 times, MR this first byte; all others are 0
+abbrev pub board : ℕ → ℕ → ℕ → ℕ → List ℕ
+board a b key mailbox = (0 ∷ 0 ∷ 0 ∷ a ∷ b ∷ 0x11 ∷ 0x22 ∷ 0x33 ∷ 0x44 ∷ []) ++ replicate 64 key ++ mailbox ∷ zeros
+
+-- a step: PC's two bytes, CPU address, DMA address, flags, CPU data
+abbrev pub step : ℕ → ℕ → ℕ → ℕ → ℕ → ℕ → List ℕ
+step low high cpu dma flags byte = low ∷ high ∷ cpu ∷ 0 ∷ dma ∷ 0 ∷ flags ∷ byte ∷ 0 ∷ 0 ∷ 0 ∷ 0 ∷ []
+
+-- eight steps, of which the second stores `byte` into the scratch
+abbrev pub trace : ℕ → List ℕ
+trace byte =
+    -- PC 0: CPU and DMA read in AR
+    step 0x00 0x00 0x06 0x07 9 0
+    -- PC in CR: a store into the scratch, a read there, a store in MR
+    ++ step 0x01 0x00 0x03 0x00 2 byte
+    ++ step 0x01 0x00 0x03 0x00 1 0
+    ++ step 0x02 0x00 0x49 0x00 2 0x5a
+    -- PC outside CR: a read in MR, a read in the scratch
+    ++ step 0x00 0xe0 0x49 0x00 1 0
+    ++ step 0x02 0xe0 0x03 0x00 1 0
+    -- held: PC is not 0; PC 0 and the DMA reads in KR
+    ++ step 0x04 0xe0 0x00 0x00 0 0
+    ++ step 0x00 0x00 0x00 0x09 8 0
+
+-- their answers
+abbrev pub answered : List ℕ
+answered =
+    (0 ∷ 3 ∷ 0x22 ∷ 0x33 ∷ [])
+    ++ (0 ∷ 0 ∷ 0 ∷ 0 ∷ [])
+    ++ (0 ∷ 0 ∷ 0 ∷ 0 ∷ [])
+    ++ (0 ∷ 0 ∷ 0 ∷ 0 ∷ [])
+    ++ (0 ∷ 1 ∷ 0x5a ∷ 0 ∷ [])
+    ++ (5 ∷ 0 ∷ 0 ∷ 0 ∷ [])
+    ++ (15 ∷ 0 ∷ 0 ∷ 0 ∷ [])
+    ++ (7 ∷ 0 ∷ 0 ∷ 0 ∷ [])
+
+-- an answer room with a byte more than it needs
+abbrev pub room : List ℕ
+room = replicate 33 0xee
+
+-- what the call leaves: `byte` in the scratch and 5a in MR, the answers and the spare byte, 8 steps with 3 resets
+abbrev pub Call : ℕ → ℕ → ℕ → ℕ → Type 0
+Call a b key byte =
+    Traces (board a b key 0) layout (trace byte) room
+    (board byte b key 0x5a) (answered ++ 0xee ∷ []) (Judged (record { steps = 8; resets = 3 }))
+
+-- both calls are as demand 3 has them, and both are judged: the same answers, and each board keeps its own key and scratch
+pub record Demand3Witness : Type 0 where
+  pub boards : Agree (layoutOf layout) (board 0xb1 0xb2 0xa1 0) (board 0x1b 0x2b 0x1a 0)
+  pub traces : SameTrace (layoutOf layout) (trace 0xc1) (trace 0x1c)
+  pub one : Call 0xb1 0xb2 0xa1 0xc1
+  pub other : Call 0x1b 0x2b 0x1a 0x1c
+  -- the byte that the traces store differs, and so does what then stands at XS's lowest address and at KR's
+  pub sent : (getD (trace 0xc1) 19 0 ≡ 0xc1) × (getD (trace 0x1c) 19 0 ≡ 0x1c)
+  pub scratch : (getD (board 0xc1 0xb2 0xa1 0x5a) 0x03 0 ≡ 0xc1) × (getD (board 0x1c 0x2b 0x1a 0x5a) 0x03 0 ≡ 0x1c)
+  pub keys : (getD (board 0xc1 0xb2 0xa1 0x5a) 0x09 0 ≡ 0xa1) × (getD (board 0x1c 0x2b 0x1a 0x5a) 0x09 0 ≡ 0x1a)

@@ -1,0 +1,87 @@
+-- The rules page on layouts: 24 bytes, six regions in this order, and which bytes are refused. Assumes nothing.
+use mathlib.Core.Bool.{Bool, not, _&&_, _||_}
+use mathlib.Core.List.{List}
+use Prim.Native.Nat.{ℕ, _+_, _*_, _/_, _%_}
+use lib.Dec.{eqb, ltb}
+use lib.ListN.{length, getD}
+use Rattle.refusal.specs.Choice.{pick}
+use Rattle.refusal.specs.First.{first}
+use Rattle.refusal.specs.Answers.{refusedAt}
+use Rattle.refusal.specs.Numbers.{layoutSize, regionReversed, regionSize, zeroInCode, regionsShare}
+use Rattle.refusal.specs.declared.Answer.{Answer}
+use Rattle.refusal.specs.declared.Answer.the-variants.{Done}
+use Rattle.layout.specs.declared.Region.{Region}
+use Rattle.layout.specs.declared.Layout.{Layout}
+use Rattle.layout.specs.Regions.{within, reversed, size, shares}
+
+-- the regions' numbers
+abbrev pub CR : ℕ
+CR = 0
+
+abbrev pub KR : ℕ
+KR = 1
+
+abbrev pub XS : ℕ
+XS = 2
+
+abbrev pub MR : ℕ
+MR = 3
+
+abbrev pub CTR : ℕ
+CTR = 4
+
+abbrev pub AR : ℕ
+AR = 5
+
+-- a 16-bit number of two bytes, little-endian
+abbrev pub word : ℕ → ℕ → ℕ
+word low high = low + 256 * high
+
+-- region number k: its lowest and its highest address
+abbrev pub region : List ℕ → ℕ → Region
+region b k = record {
+  lo = word (getD b (4 * k) 0) (getD b (4 * k + 1) 0);
+  hi = word (getD b (4 * k + 2) 0) (getD b (4 * k + 3) 0);
+}
+
+unfoldable pub layoutOf : List ℕ → Layout
+layoutOf b = record {
+  cr = region b CR;
+  kr = region b KR;
+  xs = region b XS;
+  mr = region b MR;
+  ctr = region b CTR;
+  ar = region b AR;
+}
+
+-- KR is 64 bytes, MR at least 96, CTR 32
+abbrev pub wrongSize : ℕ → Region → Bool
+wrongSize k r = eqb k KR && not (eqb (size r) 64) || eqb k MR && ltb (size r) 96 || eqb k CTR && not (eqb (size r) 32)
+
+-- of two regions, the lower number first: AR and CR may share
+abbrev pub mayShare : ℕ → ℕ → Bool
+mayShare i j = eqb i CR && eqb j AR
+
+-- two regions share an address and may not
+abbrev pub collide : List ℕ → ℕ → ℕ → Bool
+collide b i j = not (mayShare i j) && shares (region b i) (region b j)
+
+-- the first region that is reversed, the first of a wrong size; 6 if there is none
+abbrev pub firstReversed : List ℕ → ℕ
+firstReversed b = first 6 (λ k. reversed (region b k))
+
+abbrev pub firstWrongSize : List ℕ → ℕ
+firstWrongSize b = first 6 (λ k. wrongSize k (region b k))
+
+-- the pair of regions with the smallest number, 6 times the lower one's plus the higher one's, that collide; 36 if none do
+abbrev pub firstCollision : List ℕ → ℕ
+firstCollision b = first 36 (λ n. ltb (n / 6) (n % 6) && collide b (n / 6) (n % 6))
+
+-- refusals 2 to 6, in the page's order
+unfoldable pub layoutCheck : List ℕ → Answer
+layoutCheck b =
+    pick (not (eqb (length b) 24)) (refusedAt layoutSize 0)
+    (pick (ltb (firstReversed b) 6) (refusedAt regionReversed (firstReversed b))
+    (pick (ltb (firstWrongSize b) 6) (refusedAt regionSize (firstWrongSize b))
+    (pick (within (region b CR) 0) (refusedAt zeroInCode 0)
+    (pick (ltb (firstCollision b) 36) (refusedAt regionsShare 0) Done))))

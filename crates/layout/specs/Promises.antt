@@ -1,0 +1,25 @@
+-- What the check of a layout promises, for all inputs. Assumes nothing.
+use mathlib.Core.Path.{_≡_}
+use mathlib.Core.List.{List, [], _∷_}
+use Prim.Native.Nat.{ℕ}
+use Rattle.refusal.specs.Answers as A
+use Rattle.refusal.specs.Answers.{told}
+use Rattle.refusal.specs.declared.Answer.the-variants as answer
+use Rattle.layout.specs.declared.Layout.{Layout}
+use Rattle.layout.specs.declared.Checked.{Checked}
+use Rattle.layout.specs.declared.Checked.the-variants.{Good, Refused}
+use Rattle.layout.specs.Layouts.{layoutOf, layoutCheck}
+
+-- a layout's twelve numbers
+abbrev pub values : Layout → List ℕ
+values l =
+    l .cr .lo ∷ l .cr .hi ∷ l .kr .lo ∷ l .kr .hi ∷ l .xs .lo ∷ l .xs .hi ∷ l .mr .lo ∷ l .mr .hi ∷ l .ctr .lo ∷ l .ctr .hi ∷ l .ar .lo ∷ l .ar .hi ∷ []
+
+-- the row of the check's answer: 0 and the layout's numbers, or the refusal's number and place
+abbrev pub row : Checked → List ℕ
+row (Good l) = 0 ∷ values l
+row (Refused r) = A.row (answer.Refused r)
+
+-- `check`: the layout that the bytes describe, or the refusal that they earn
+pub record Checks (b : List ℕ) (r : Checked) : Type 0 where
+  pub answered : row r ≡ told (layoutCheck b) (values (layoutOf b))

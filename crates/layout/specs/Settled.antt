@@ -1,0 +1,29 @@
+-- A row settles the check's answer, and the promise of `check` its result. Assumes nothing.
+use mathlib.Core.Path.{_≡_, ap, sym, _∙_}
+use mathlib.Core.List.{List}
+use Prim.Native.Nat.{ℕ, _+_}
+use native.Mathlib.Omega.{arith}
+use lib.ListN.{getD}
+use Rattle.layout.specs.declared.Region.{Region}
+use Rattle.layout.specs.declared.Checked.{Checked}
+use Rattle.layout.specs.declared.Checked.the-variants.{Good, Refused}
+use Rattle.layout.specs.Promises.{row, Checks}
+
+-- the answers that a row tells, read back from it
+abbrev pair : List ℕ → ℕ → Region
+pair v n = record { lo = getD v n 0; hi = getD v (n + 1) 0 }
+
+abbrev good : List ℕ → Checked
+good v = Good (record { cr = pair v 1; kr = pair v 3; xs = pair v 5; mr = pair v 7; ctr = pair v 9; ar = pair v 11 })
+
+abbrev refused : List ℕ → Checked
+refused v = Refused (record { number = getD v 0 0; place = getD v 1 0 })
+
+pub row-settled : (a b : Checked) → row a ≡ row b → a ≡ b
+row-settled (Good l) (Good m) e = ap good e
+row-settled (Good l) (Refused r) e = absurd (let z : _≡_ {A = ℕ} 0 1 = cc in omega arith)
+row-settled (Refused r) (Good l) e = absurd (let z : _≡_ {A = ℕ} 0 1 = cc in omega arith)
+row-settled (Refused r) (Refused s) e = ap refused e
+
+pub checks-settled : (b : List ℕ) (r q : Checked) → Checks b r → Checks b q → r ≡ q
+checks-settled b r q p p′ = row-settled r q (p .answered ∙ sym (p′ .answered))

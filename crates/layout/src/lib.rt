@@ -1,0 +1,205 @@
+// The board's regions, and the check of a layout's bytes.
+use refusal::Answer;
+use refusal::Refusal;
+ghost use mathlib.Core.Path.{_≡_};
+ghost use Prim.Native.Nat.{_<_};
+ghost use lib.ListN.{length};
+ghost use Rattle.refusal.specs.Answers.{refusedAt};
+ghost use Rattle.layout.specs.Regions as R;
+ghost use Rattle.layout.specs.Layouts as S;
+ghost use Rattle.layout.specs.Promises as P;
+
+// A lowest and a highest address, both included.
+pub struct Region {
+    pub lo: u16,
+    pub hi: u16,
+}
+
+pub struct Layout {
+    pub cr: Region,
+    pub kr: Region,
+    pub xs: Region,
+    pub mr: Region,
+    pub ctr: Region,
+    pub ar: Region,
+}
+
+pub enum Checked {
+    Good(Layout),
+    Refused(Refusal),
+}
+
+// The bytes of a layout, and how many regions they describe.
+const BYTES: usize = 24;
+
+const REGIONS: usize = 6;
+
+const KR: usize = 1;
+
+const MR: usize = 3;
+
+const CTR: usize = 4;
+
+const AR: usize = 5;
+
+impl Region {
+    pub fn holds(self, a: u16) -> bool
+        ensures { λ r. ⌜ r ≡ R.within self a ⌝ }
+    {
+        (self.lo <= a) & (a <= self.hi)
+    }
+
+    fn size(self) -> usize
+        ensures { λ r. ⌜ r ≡ R.size self ⌝ }
+    {
+        if self.hi < self.lo {
+            return 0;
+        }
+        (self.hi - self.lo) as usize + 1
+    }
+}
+
+// A 16-bit number of two bytes, little-endian.
+pub fn word(low: u8, high: u8) -> u16
+    ensures { λ r. ⌜ r ≡ S.word low high ⌝ }
+{
+    low as u16 + 256 * (high as u16)
+}
+
+fn region_at(b: &[u8], k: usize) -> Region
+    requires { ⌜ (length (now b) ≡ 24) × (k < 6) ⌝ }
+    ensures { λ r. ⌜ r ≡ S.region (now (b .entry)) k ⌝ }
+{
+    let at = 4 * k;
+    Region {
+        lo: word(b[at], b[at + 1]),
+        hi: word(b[at + 2], b[at + 3]),
+    }
+}
+
+fn first_reversed(b: &[u8]) -> usize
+    requires { ⌜ length (now b) ≡ 24 ⌝ }
+    ensures { λ r. ⌜ r ≡ S.firstReversed (now (b .entry)) ⌝ }
+{
+    let mut k: usize = 0;
+    while k < REGIONS {
+        let r = region_at(b, k);
+        if r.hi < r.lo {
+            return k;
+        }
+        k += 1;
+    }
+    k
+}
+
+fn wrong_size(k: usize, r: Region) -> bool
+    ensures { λ x. ⌜ x ≡ S.wrongSize k r ⌝ }
+{
+    let n = r.size();
+    ((k == KR) & (n != 64)) | ((k == MR) & (n < 96)) | ((k == CTR) & (n != 32))
+}
+
+fn first_wrong_size(b: &[u8]) -> usize
+    requires { ⌜ length (now b) ≡ 24 ⌝ }
+    ensures { λ r. ⌜ r ≡ S.firstWrongSize (now (b .entry)) ⌝ }
+{
+    let mut k: usize = 0;
+    while k < REGIONS {
+        if wrong_size(k, region_at(b, k)) {
+            return k;
+        }
+        k += 1;
+    }
+    k
+}
+
+// Two regions, the one with the lower number first, that share an address and may not: AR and CR may.
+fn collide(b: &[u8], i: usize, j: usize) -> bool
+    requires { ⌜ (length (now b) ≡ 24) × ((i < 6) × (j < 6)) ⌝ }
+    ensures { λ r. ⌜ r ≡ S.collide (now (b .entry)) i j ⌝ }
+{
+    let x = region_at(b, i);
+    let y = region_at(b, j);
+    !((i == 0) & (j == AR)) & ((x.lo <= y.hi) & (y.lo <= x.hi))
+}
+
+// Over all pairs by number: 6 times the one region's plus the other's.
+fn first_collision(b: &[u8]) -> usize
+    requires { ⌜ length (now b) ≡ 24 ⌝ }
+    ensures { λ r. ⌜ r ≡ S.firstCollision (now (b .entry)) ⌝ }
+{
+    let mut n: usize = 0;
+    while n < REGIONS * REGIONS {
+        let i = n / REGIONS;
+        let j = n % REGIONS;
+        if (i < j) & collide(b, i, j) {
+            return n;
+        }
+        n += 1;
+    }
+    n
+}
+
+fn refused(number: u8, place: usize) -> Answer
+    ensures { λ r. ⌜ r ≡ refusedAt number place ⌝ }
+{
+    Answer::Refused(Refusal { number, place })
+}
+
+// Refusals 3 to 6.
+fn vet(b: &[u8]) -> Answer
+    requires { ⌜ length (now b) ≡ 24 ⌝ }
+    ensures { λ r. ⌜ r ≡ S.layoutCheck (now (b .entry)) ⌝ }
+{
+    let reversed = first_reversed(b);
+    if reversed < REGIONS {
+        return refused(refusal::REGION_REVERSED, reversed);
+    }
+    let missized = first_wrong_size(b);
+    if missized < REGIONS {
+        return refused(refusal::REGION_SIZE, missized);
+    }
+    if region_at(b, 0).holds(0) {
+        return refused(refusal::ZERO_IN_CODE, 0);
+    }
+    if first_collision(b) < REGIONS * REGIONS {
+        return refused(refusal::REGIONS_SHARE, 0);
+    }
+    Answer::Done
+}
+
+fn read(b: &[u8]) -> Layout
+    requires { ⌜ length (now b) ≡ 24 ⌝ }
+    ensures { λ r. ⌜ r ≡ S.layoutOf (now (b .entry)) ⌝ }
+{
+    let cr = region_at(b, 0);
+    let kr = region_at(b, KR);
+    let xs = region_at(b, 2);
+    let mr = region_at(b, MR);
+    let ctr = region_at(b, CTR);
+    let ar = region_at(b, AR);
+    Layout {
+        cr,
+        kr,
+        xs,
+        mr,
+        ctr,
+        ar,
+    }
+}
+
+// The layout that 24 bytes describe; refused as the rules page says.
+pub fn check(layout: &[u8]) -> Checked
+    ensures { λ r. ⌜ P.Checks (now (layout .entry)) r ⌝ }
+{
+    if layout.len() != BYTES {
+        return Checked::Refused(Refusal {
+            number: refusal::LAYOUT_SIZE,
+            place: 0,
+        });
+    }
+    match vet(layout) {
+        Answer::Done => Checked::Good(read(layout)),
+        Answer::Refused(r) => Checked::Refused(r),
+    }
+}

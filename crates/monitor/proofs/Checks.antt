@@ -1,0 +1,76 @@
+-- The checks of the calls: what has passed, and what then passes too. Assumes nothing.
+use mathlib.Core.Path.{_≡_, ap}
+use mathlib.Core.Bool.{false, not, _||_}
+use mathlib.Core.List.{List}
+use Prim.Native.Nat.{ℕ, _*_, _%_, _≤_, _<_}
+use native.Mathlib.Omega.{arith}
+use lib.Dec.{eqb, ltb}
+use lib.ListN.{length, drop, length-take, length-drop}
+use lib.Seq.{take-take}
+use borrow.Author.Tests.{eqb-true, eq-eqb, ltb-false, le-ltb, not-false}
+use Rattle.refusal.specs.Numbers.{roomSize}
+use Rattle.refusal.specs.declared.Answer.{Answer}
+use Rattle.refusal.specs.declared.Answer.the-variants.{Done}
+use Rattle.refusal.proofs.Tests.{neither}
+use Rattle.refusal.proofs.First.{none-found}
+use Rattle.refusal.proofs.Order.{done-passed, both-done}
+use Rattle.layout.specs.Layouts.{layoutCheck}
+use Rattle.rules.specs.Steps.{stepOf}
+use Rattle.monitor.specs.Runs.{stepSize, answerSize, count, stepBytes, steps}
+use Rattle.monitor.specs.Promises.{memoryBytes, mostSteps, unclean, traceCheck, stepCheck, callCheck}
+
+pub call-passed : (memory layout : List ℕ) (rest : Answer) → callCheck memory layout rest ≡ Done
+    → (length memory ≡ memoryBytes) × (layoutCheck layout ≡ Done) × (rest ≡ Done)
+call-passed memory layout rest e =
+    let p = done-passed (not (eqb (length memory) memoryBytes)) _ _ e in
+    let q = both-done (layoutCheck layout) rest (p .1) in
+    (eqb-true (length memory) memoryBytes (not-false _ (p .0)), q .0, q .1)
+
+pub call-passes : (memory layout : List ℕ) (rest : Answer) → length memory ≡ memoryBytes → layoutCheck layout ≡ Done → rest ≡ Done
+    → callCheck memory layout rest ≡ Done
+call-passes memory layout rest w e f = simp (eq-eqb (length memory) memoryBytes w, e, f)
+
+-- a trace that passes is whole steps, not too many, with room for the answers, and each step is clean
+pub record Fitting (trace : List ℕ) (room : ℕ) : Type 0 where
+  pub whole : length trace ≡ stepSize * count trace
+  pub most : count trace ≤ mostSteps
+  pub roomy : answerSize * count trace ≤ room
+  pub clean : (i : ℕ) → i < count trace → unclean trace i ≡ false
+
+pub trace-passed : (trace : List ℕ) (room : ℕ) → traceCheck trace room ≡ Done → Fitting trace room
+unfolding traceCheck
+trace-passed trace room e =
+    let p = done-passed (not (eqb (length trace % stepSize) 0) || ltb mostSteps (count trace)) _ _ e in
+    let q = done-passed (ltb room (answerSize * count trace)) (record { number = roomSize; place = 0 }) _ (p .1) in
+    let s = done-passed _ _ _ (q .1) in
+    let t = neither (not (eqb (length trace % stepSize) 0)) (ltb mostSteps (count trace)) (p .0) in
+    let w = eqb-true (length trace % stepSize) 0 (not-false _ (t .0)) in
+    record {
+      whole = omega arith;
+      most = ltb-false mostSteps (count trace) (t .1);
+      roomy = ltb-false room (answerSize * count trace) (q .0);
+      clean = none-found (count trace) (unclean trace) (s .0);
+    }
+
+pub step-passed : (step : List ℕ) (room : ℕ) → stepCheck step room ≡ Done → (length step ≡ stepSize) × (answerSize ≤ room)
+unfolding stepCheck
+step-passed step room e =
+    let p = done-passed (not (eqb (length step) stepSize)) _ _ e in
+    let q = done-passed (ltb room answerSize) (record { number = roomSize; place = 0 }) _ (p .1) in
+    (eqb-true (length step) stepSize (not-false _ (p .0)), ltb-false room answerSize (q .0))
+
+-- one step of a trace that passes
+module _ (trace : List ℕ) (room : ℕ) (f : Fitting trace room) (i : ℕ) (h : i < count trace) where
+  one-length : length (stepBytes trace i) ≡ stepSize
+  one-length = simp (length-take, length-drop) (omega (arith, f .whole))
+
+  one-bytes : stepBytes (stepBytes trace i) 0 ≡ stepBytes trace i
+  one-bytes = take-take stepSize stepSize (drop (stepSize * i) trace) (omega arith)
+
+  pub one-step : steps (stepBytes trace i) 0 ≡ steps trace i
+  one-step = ap stepOf one-bytes
+
+  pub one-passes : (space : ℕ) → answerSize ≤ space → stepCheck (stepBytes trace i) space ≡ Done
+  unfolding stepCheck
+  one-passes space r =
+      simp (eq-eqb (length (stepBytes trace i)) stepSize one-length, le-ltb space answerSize r, one-bytes, f .clean i h)

@@ -1,0 +1,5 @@
+pub mod Lists
+pub mod Laws
+pub mod Checks
+pub mod Turns
+pub mod Calls

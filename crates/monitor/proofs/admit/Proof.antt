@@ -1,0 +1,55 @@
+-- `monitor::admit` meets its contract. Assumes nothing.
+use borrow.Author.Needs.{needs}
+use mathlib.Core.Path.{subst}
+use borrow.Author.Tests.{ne-eqb}
+use Rattle.layout.specs.Promises.{Checks}
+use Rattle.monitor.proofs.Calls.{admit-good, admit-rest, admit-refused}
+use Rattle.monitor.proofs.admit.Statement.{statement}
+use Rattle.monitor.proofs.admit.Tie as tie
+
+returns : tie.Need-returns
+returns c = simp (ne-eqb _ _ (c .if1 .taken))
+
+check-requires : tie.Need-check-requires
+check-requires c κs = search needs
+
+enum-known-l : tie.Need-enum-known-l
+enum-known-l c = search needs
+
+enum-told : tie.Need-enum-told
+enum-told c = search needs
+
+enum-known-rest : tie.Need-enum-known-rest
+enum-known-rest c = search needs
+
+enum-known-r : tie.Need-enum-known-r
+enum-known-r c = search needs
+
+returns-2 : tie.Need-returns-2
+returns-2 c =
+    let h = c .before .before .before .before .before .before .before .before .before .args in
+    admit-good (h .memory .now) (h .layout .now) (h .rest) (c .before .before .before .before .before .before .if1 .left) _ (subst (Checks _) (c .before .before .before .l .given .1) (c .before .before .before .before .before .check .ensures)) (c .enum-told .given .1)
+
+returns-3 : tie.Need-returns-3
+returns-3 c =
+    let h = c .before .before .before .before .before .before .before .before .before .before .args in
+    admit-rest (h .memory .now) (h .layout .now) (h .rest) (c .before .before .before .before .before .before .before .if1 .left) _ _ (subst (Checks _) (c .before .before .before .before .l .given .1) (c .before .before .before .before .before .before .check .ensures)) (c .before .rest .given .1)
+
+returns-4 : tie.Need-returns-4
+returns-4 c =
+    let h = c .before .before .before .before .before .before .before .args in
+    admit-refused (h .memory .now) (h .layout .now) (h .rest) (c .before .before .before .before .if1 .left) _ (subst (Checks _) (c .before .r .given .1) (c .before .before .before .check .ensures))
+
+pub admit-spec : {M : Type 1} → statement M
+admit-spec =
+    tie.close
+    (tie.spec
+    returns
+    check-requires
+    enum-known-l
+    enum-told
+    enum-known-rest
+    enum-known-r
+    returns-2
+    returns-3
+    returns-4)

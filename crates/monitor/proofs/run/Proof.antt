@@ -1,0 +1,96 @@
+-- `monitor::run` meets its contract. Assumes nothing.
+use borrow.Author.Needs.{needs}
+use Prim.Native.Nat.{_≤_, _-_}
+use mathlib.Core.Path.{_≡_, refl, ap, _∙_}
+use mathlib.Core.Bool.{not}
+use native.Mathlib.Omega.{arith}
+use lib.Dec.{eqb}
+use lib.ListN.{length}
+use Rattle.rules.specs.Steps.{stepOf}
+use Rattle.monitor.specs.Runs.{count}
+use Rattle.monitor.proofs.Turns.{After, none, more, one-most, whole}
+use Rattle.monitor.proofs.run.Statement.{statement}
+use Rattle.monitor.proofs.run.Tie as tie
+
+abbrev Inv-loop : tie.InvT-loop
+Inv-loop l trace memory₀ room₀ n m₀ resets₀ i₀ memory room m resets i =
+    (i ≤ n) × (n ≡ count trace) × (length memory ≡ 65536) × (length room ≡ length room₀) × (resets ≤ i) × After l trace memory₀ room₀ i memory room m resets
+
+abbrev μ-loop : tie.MeasureT-loop
+μ-loop l trace memory₀ room₀ n m₀ resets₀ i₀ memory room m resets i = n - i
+
+loop-holds : tie.Need-loop-holds Inv-loop μ-loop
+loop-holds c = (omega arith, refl, c .before .before .before .pre .0, refl, omega arith, none _ _ _ _)
+
+step-bytes-requires : tie.Need-step-bytes-requires Inv-loop μ-loop
+step-bytes-requires c κs = omega arith
+
+decode-requires : tie.Need-decode-requires Inv-loop μ-loop
+decode-requires c κs = search needs
+
+judge-requires : tie.Need-judge-requires Inv-loop μ-loop
+judge-requires c κs = omega arith
+
+mul-put-answer : tie.Need-mul-put-answer Inv-loop μ-loop
+mul-put-answer c = omega arith
+
+put-answer-requires : tie.Need-put-answer-requires Inv-loop μ-loop
+put-answer-requires c κs = omega arith
+
+one-if-requires : tie.Need-one-if-requires Inv-loop μ-loop
+one-if-requires c κs = search needs
+
+add-resets : tie.Need-add-resets Inv-loop μ-loop
+add-resets c =
+    omega (arith, c .before .before .before .before .before .before .before .before .before .before .before .before .before .before .before .loop .inv, c .before .before .before .before .before .before .before .before .before .before .before .before .before .before .loop-test, c .before .before .before .before .before .before .before .before .before .before .before .before .before .before .before .before .before .before .before .good, c .one-if .ensures, one-most (not (eqb (c .before .before .before .before .before .before .before .before .before .before .judge .result .answer .cause) 0)))
+
+add-i : tie.Need-add-i Inv-loop μ-loop
+add-i c = omega (arith, c .before .before .before .before .before .before .before .before .before .before .before .before .before .before .before .loop .inv, c .before .before .before .before .before .before .before .before .before .before .before .before .before .before .loop-test, c .before .before .before .before .before .before .before .before .before .before .before .before .before .before .before .before .before .before .before .good)
+
+loop-less : tie.Need-loop-less Inv-loop μ-loop
+loop-less c = omega arith
+
+loop-again : tie.Need-loop-again Inv-loop μ-loop
+loop-again c =
+    let h = c .before .before .before .before .before .before .before .before .before .before .before .before .before .before .before .loop in
+    let j = c .before .before .before .before .before .before .before .before .before .before .judge in
+    let p = c .before .before .before .before .before .put-answer in (
+      omega (arith, h .inv, c .before .before .before .before .before .before .before .before .before .before .before .before .before .before .loop-test),
+      refl,
+      j .kept .1 .1 .1 .0 ∙ h .inv .2,
+      p .kept .0 ∙ h .inv .3,
+      omega (arith, h .inv, c .one-if .ensures, one-most (not (eqb (j .result .answer .cause) 0))),
+      more _ _ _ _ _ _ _ _ _ (h .inv .5) _ (c .before .before .before .before .before .before .before .before .before .before .before .before .decode .ensures ∙ ap stepOf (c .before .before .before .before .before .before .before .before .before .before .before .before .before .step-bytes .ensures)) _ _ (j .ensures .0) (j .ensures .1) (j .ensures .2) _ (p .ensures) _ (c .one-if .ensures),
+    )
+
+same-length : tie.Need-same-length Inv-loop μ-loop
+same-length c = omega arith
+
+same-length-2 : tie.Need-same-length-2 Inv-loop μ-loop
+same-length-2 c = omega arith
+
+returns : tie.Need-returns Inv-loop μ-loop
+returns c =
+    let h = c .before .loop in
+    whole _ _ _ _ (h .i) (h .memory) (h .room) (h .m) (h .resets) _ (h .inv .5) refl (omega arith)
+
+pub run-spec : {M : Type 1} → statement M
+run-spec =
+    tie.close
+    (tie.spec
+    Inv-loop
+    μ-loop
+    loop-holds
+    step-bytes-requires
+    decode-requires
+    judge-requires
+    mul-put-answer
+    put-answer-requires
+    one-if-requires
+    add-resets
+    add-i
+    loop-less
+    loop-again
+    same-length
+    same-length-2
+    returns)

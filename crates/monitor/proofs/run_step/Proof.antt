@@ -1,0 +1,43 @@
+-- `monitor::run_step` meets its contract. Assumes nothing.
+use borrow.Author.Needs.{needs}
+use mathlib.Core.Path.{ap, _∙_}
+use Rattle.rules.specs.Steps.{stepOf}
+use Rattle.monitor.proofs.Turns.{one}
+use Rattle.monitor.proofs.run_step.Statement.{statement}
+use Rattle.monitor.proofs.run_step.Tie as tie
+
+step-bytes-requires : tie.Need-step-bytes-requires
+step-bytes-requires c κs = search needs
+
+decode-requires : tie.Need-decode-requires
+decode-requires c κs = search needs
+
+judge-requires : tie.Need-judge-requires
+judge-requires c κs = search needs
+
+put-answer-requires : tie.Need-put-answer-requires
+put-answer-requires c κs = search needs
+
+same-length : tie.Need-same-length
+same-length c = search needs
+
+same-length-2 : tie.Need-same-length-2
+same-length-2 c = search needs
+
+returns : tie.Need-returns
+returns c =
+    let h = c .before .before .before .before .before .before .before .before .before .before .before .before .before .before .before .args in
+    let j = c .before .before .before .before .before .before .before .before .judge in
+    one _ _ (h .step .now) _ _ (h .room .now) _ _ (c .before .before .before .before .before .before .before .before .before .before .decode .ensures ∙ ap stepOf (c .before .before .before .before .before .before .before .before .before .before .before .step-bytes .ensures)) _ (j .ensures .0) (j .ensures .1) (j .ensures .2) (c .before .before .before .put-answer .ensures)
+
+pub run-step-spec : {M : Type 1} → statement M
+run-step-spec =
+    tie.close
+    (tie.spec
+    step-bytes-requires
+    decode-requires
+    judge-requires
+    put-answer-requires
+    same-length
+    same-length-2
+    returns)

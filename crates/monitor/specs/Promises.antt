@@ -1,0 +1,112 @@
+-- What the calls for one step and for a trace promise, for all inputs. Assumes nothing.
+use mathlib.Core.Path.{_≡_}
+use mathlib.Core.Bool.{Bool, not, _||_}
+use mathlib.Core.List.{List, [], _∷_, _++_}
+use Prim.Native.Nat.{ℕ, _*_, _%_}
+use lib.Dec.{eqb, ltb}
+use lib.ListN.{length, drop}
+use Rattle.refusal.specs.Choice.{pick}
+use Rattle.refusal.specs.First.{first}
+use Rattle.refusal.specs.Answers as A
+use Rattle.refusal.specs.Answers.{refusedAt, andThen, told, lent}
+use Rattle.refusal.specs.Numbers.{memorySize, traceSize, roomSize, stepNotZero}
+use Rattle.refusal.specs.declared.Answer.{Answer}
+use Rattle.refusal.specs.declared.Answer.the-variants as call
+use Rattle.layout.specs.Layouts.{layoutOf, layoutCheck}
+use Rattle.rules.specs.declared.Monitor.{Monitor}
+use Rattle.rules.specs.Steps.{clean}
+use Rattle.rules.specs.Rules.{next}
+use Rattle.monitor.specs.declared.Totals.{Totals}
+use Rattle.monitor.specs.declared.Stepped.{Stepped}
+use Rattle.monitor.specs.declared.Stepped.the-variants as stepped
+use Rattle.monitor.specs.declared.Traced.{Traced}
+use Rattle.monitor.specs.declared.Traced.the-variants as traced
+use Rattle.monitor.specs.Effects.{bytes, written, answer}
+use Rattle.monitor.specs.Runs.{stepSize, answerSize, count, stepBytes, steps, memoryAfter, roomAfter, totals}
+
+-- ---- refusals
+
+-- the memory has one byte for each address
+abbrev pub memoryBytes : ℕ
+memoryBytes = 65536
+
+abbrev pub mostSteps : ℕ
+mostSteps = 4096
+
+-- a zero bit or byte of step n is set
+abbrev pub unclean : List ℕ → ℕ → Bool
+unclean b n = not (clean (stepBytes b n))
+
+abbrev pub firstUnclean : List ℕ → ℕ
+firstUnclean b = first (count b) (unclean b)
+
+-- refusals 7 to 9 of a trace and an answer room of so many bytes: all steps are checked before the first is judged
+unfoldable pub traceCheck : List ℕ → ℕ → Answer
+traceCheck b room =
+    pick (not (eqb (length b % stepSize) 0) || ltb mostSteps (count b)) (refusedAt traceSize 0)
+    (pick (ltb room (answerSize * count b)) (refusedAt roomSize 0)
+    (pick (ltb (firstUnclean b) (count b)) (refusedAt stepNotZero (firstUnclean b)) call.Done))
+
+-- the same of one step
+unfoldable pub stepCheck : List ℕ → ℕ → Answer
+stepCheck b room =
+    pick (not (eqb (length b) stepSize)) (refusedAt traceSize 0)
+    (pick (ltb room answerSize) (refusedAt roomSize 0)
+    (pick (unclean b 0) (refusedAt stepNotZero 0) call.Done))
+
+-- refusal 1, then the layout's, then the rest
+abbrev pub callCheck : List ℕ → List ℕ → Answer → Answer
+callCheck memory layout rest =
+    pick (not (eqb (length memory) memoryBytes)) (refusedAt memorySize 0) (andThen (layoutCheck layout) rest)
+
+-- ---- answers
+
+-- the steps and the resets
+abbrev pub values : Totals → List ℕ
+values t = t .steps ∷ t .resets ∷ []
+
+-- 0 and these, or the refusal's number and place
+abbrev pub tracedRow : Traced → List ℕ
+tracedRow (traced.Judged t) = 0 ∷ values t
+tracedRow (traced.Refused r) = A.row (call.Refused r)
+
+-- what the monitor remembers: held as 1 or 0, and the PC
+abbrev pub remembered : Monitor → List ℕ
+remembered m = pick (m .held) 1 0 ∷ m .last ∷ []
+
+-- 0 and what the monitor then remembers, or the refusal's number and place
+abbrev pub steppedRow : Stepped → List ℕ
+steppedRow (stepped.Judged m) = 0 ∷ remembered m
+steppedRow (stepped.Refused r) = A.row (call.Refused r)
+
+-- ---- the calls: memory and room are lent, and memory′ and room′ are what stands there afterwards
+
+-- `trace`
+pub record Traces (memory layout trace room memory′ room′ : List ℕ) (r : Traced) : Type 0 where
+  pub answered :
+      tracedRow r
+      ≡ told (callCheck memory layout (traceCheck trace (length room))) (values (totals (layoutOf layout) trace memory))
+  pub memory-left :
+      memory′
+      ≡ lent (callCheck memory layout (traceCheck trace (length room))) (memoryAfter (layoutOf layout) trace memory) memory
+  pub room-left :
+      room′
+      ≡ lent (callCheck memory layout (traceCheck trace (length room))) (roomAfter (layoutOf layout) trace memory room) room
+
+-- `step`, from whatever the monitor m remembers
+pub record Steps (memory layout step : List ℕ) (m : Monitor) (room memory′ room′ : List ℕ) (r : Stepped) : Type 0 where
+  pub answered :
+      steppedRow r
+      ≡ told (callCheck memory layout (stepCheck step (length room))) (remembered (next (layoutOf layout) m (steps step 0)))
+  pub memory-left :
+      memory′
+      ≡ lent (callCheck memory layout (stepCheck step (length room))) (written (layoutOf layout) m (steps step 0) memory) memory
+  pub room-left :
+      room′
+      ≡ lent (callCheck memory layout (stepCheck step (length room)))
+      (bytes (answer (layoutOf layout) m (steps step 0) memory) ++ drop answerSize room)
+      room
+
+-- `fits`, the check of a trace and of so much answer room
+pub record Fits (trace : List ℕ) (room : ℕ) (r : Answer) : Type 0 where
+  pub answered : A.row r ≡ A.row (traceCheck trace room)

@@ -1,0 +1,70 @@
+-- The promises settle the answer and every lent byte. Assumes nothing.
+use mathlib.Core.Path.{_≡_, refl, ap, sym, _∙_}
+use mathlib.Core.Bool.{Bool, true, false}
+use mathlib.Core.List.{List}
+use Prim.Native.Nat.{ℕ}
+use native.Mathlib.Omega.{arith}
+use Rattle.refusal.specs.Choice.{pick}
+use Rattle.refusal.specs.Settled.{row-settled}
+use Rattle.refusal.specs.declared.Answer.{Answer}
+use Rattle.refusal.specs.declared.Answer.the-variants as call
+use Rattle.rules.specs.declared.Monitor.{Monitor}
+use Rattle.monitor.specs.declared.Stepped.{Stepped}
+use Rattle.monitor.specs.declared.Stepped.the-variants as stepped
+use Rattle.monitor.specs.declared.Traced.{Traced}
+use Rattle.monitor.specs.declared.Traced.the-variants as traced
+use Rattle.monitor.specs.Promises.{remembered, tracedRow, steppedRow, Traces, Steps, Fits}
+
+-- ---- an answer's row settles the answer
+
+pub traced-row-settled : (r q : Traced) → tracedRow r ≡ tracedRow q → r ≡ q
+traced-row-settled (traced.Judged t) (traced.Judged u) e =
+    let n : t .steps ≡ u .steps = cc in
+    let k : t .resets ≡ u .resets = cc in
+    ap (λ (x : ℕ). traced.Judged (record { steps = x; resets = t .resets })) n
+    ∙ ap (λ (x : ℕ). traced.Judged (record { steps = u .steps; resets = x })) k
+traced-row-settled (traced.Judged t) (traced.Refused s) e = absurd (let z : _≡_ {A = ℕ} 0 1 = cc in omega arith)
+traced-row-settled (traced.Refused r) (traced.Judged u) e = absurd (let z : _≡_ {A = ℕ} 0 1 = cc in omega arith)
+traced-row-settled (traced.Refused r) (traced.Refused s) e = cc (row-settled (call.Refused r) (call.Refused s) e)
+
+held-settled : (a b : Bool) → pick {A = ℕ} a 1 0 ≡ pick b 1 0 → a ≡ b
+held-settled true true e = refl
+held-settled true false e = absurd (omega arith)
+held-settled false true e = absurd (omega arith)
+held-settled false false e = refl
+
+pub monitor-settled : (m n : Monitor) → remembered m ≡ remembered n → m ≡ n
+monitor-settled m n e =
+    let h : m .held ≡ n .held = held-settled (m .held) (n .held) (cc) in
+    let k : m .last ≡ n .last = cc in
+    ap (λ (x : Bool). record { held = x; last = m .last }) h
+    ∙ ap (λ (x : ℕ). record { held = n .held; last = x }) k
+
+pub stepped-row-settled : (r q : Stepped) → steppedRow r ≡ steppedRow q → r ≡ q
+stepped-row-settled (stepped.Judged m) (stepped.Judged n) e = ap stepped.Judged (monitor-settled m n (cc))
+stepped-row-settled (stepped.Judged m) (stepped.Refused s) e = absurd (let z : _≡_ {A = ℕ} 0 1 = cc in omega arith)
+stepped-row-settled (stepped.Refused r) (stepped.Judged n) e = absurd (let z : _≡_ {A = ℕ} 0 1 = cc in omega arith)
+stepped-row-settled (stepped.Refused r) (stepped.Refused s) e = cc (row-settled (call.Refused r) (call.Refused s) e)
+
+-- ---- two results that meet the promise for the same inputs are equal
+
+pub traces-settled : (memory layout trace room memory₁ room₁ memory₂ room₂ : List ℕ) (r q : Traced)
+    → Traces memory layout trace room memory₁ room₁ r → Traces memory layout trace room memory₂ room₂ q
+    → (r ≡ q) × (memory₁ ≡ memory₂) × (room₁ ≡ room₂)
+traces-settled memory layout trace room memory₁ room₁ memory₂ room₂ r q p p′ = (
+  traced-row-settled r q (p .answered ∙ sym (p′ .answered)),
+  p .memory-left ∙ sym (p′ .memory-left),
+  p .room-left ∙ sym (p′ .room-left),
+)
+
+pub steps-settled : (memory layout step : List ℕ) (m : Monitor) (room memory₁ room₁ memory₂ room₂ : List ℕ) (r q : Stepped)
+    → Steps memory layout step m room memory₁ room₁ r → Steps memory layout step m room memory₂ room₂ q
+    → (r ≡ q) × (memory₁ ≡ memory₂) × (room₁ ≡ room₂)
+steps-settled memory layout step m room memory₁ room₁ memory₂ room₂ r q p p′ = (
+  stepped-row-settled r q (p .answered ∙ sym (p′ .answered)),
+  p .memory-left ∙ sym (p′ .memory-left),
+  p .room-left ∙ sym (p′ .room-left),
+)
+
+pub fits-settled : (trace : List ℕ) (room : ℕ) (r q : Answer) → Fits trace room r → Fits trace room q → r ≡ q
+fits-settled trace room r q p p′ = row-settled r q (p .answered ∙ sym (p′ .answered))

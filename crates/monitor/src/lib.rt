@@ -1,0 +1,314 @@
+// The monitor on lent memory: one step from whatever it remembers, and a trace from its start.
+use layout::Checked;
+use layout::Layout;
+use layout::Region;
+use refusal::Answer;
+use refusal::Refusal;
+use rules::Monitor;
+use rules::Step;
+ghost use mathlib.Core.Path.{_≡_};
+ghost use mathlib.Core.Bool.{not};
+ghost use mathlib.Core.List.{_++_};
+ghost use Prim.Native.Nat.{_+_, _*_, _/_, _≤_, _<_};
+ghost use lib.ListN.{length, getD, take, drop};
+ghost use Rattle.refusal.specs.Choice.{pick};
+ghost use Rattle.refusal.specs.Answers.{row, told};
+ghost use Rattle.layout.specs.Layouts.{layoutOf};
+ghost use Rattle.layout.specs.Promises as L;
+ghost use Rattle.rules.specs.Rules.{next};
+ghost use Rattle.monitor.specs.Effects as E;
+ghost use Rattle.monitor.specs.Runs as R;
+ghost use Rattle.monitor.specs.Promises as P;
+
+// The four answer bytes of a step; bit 0 of `exposed` stands for the CPU's byte, bit 1 for the DMA's.
+pub struct StepAnswer {
+    pub cause: u8,
+    pub exposed: u8,
+    pub cpu: u8,
+    pub dma: u8,
+}
+
+pub struct Totals {
+    pub steps: usize,
+    pub resets: usize,
+}
+
+pub enum Stepped {
+    Judged(Monitor),
+    Refused(Refusal),
+}
+
+pub enum Traced {
+    Judged(Totals),
+    Refused(Refusal),
+}
+
+// What one step leaves beside the memory.
+struct Judged {
+    answer: StepAnswer,
+    monitor: Monitor,
+}
+
+const MEMORY: usize = 65_536;
+
+const STEP: usize = 12;
+
+const ANSWER: usize = 4;
+
+const MOST_STEPS: usize = 4096;
+
+// The byte at an address, or 0 where it is not exposed.
+fn peek(on: bool, a: u16, memory: &[u8]) -> u8
+    requires { ⌜ length (now memory) ≡ P.memoryBytes ⌝ }
+    ensures { λ r. ⌜ r ≡ pick on (getD (now (memory .entry)) a 0) 0 ⌝ }
+{
+    let at = a as usize;
+    if on { memory[at] } else { 0 }
+}
+
+// A store, which has no effect in CR and KR.
+fn put(l: Layout, on: bool, a: u16, v: u8, memory: &mut [u8])
+    requires { ⌜ length (now memory) ≡ P.memoryBytes ⌝ }
+    ensures { λ r. ⌜ now (memory .exit) ≡ E.stored l on a v (now (memory .entry)) ⌝ }
+{
+    let at = a as usize;
+    if on & !l.cr.holds(a) & !l.kr.holds(a) {
+        memory[at] = v;
+    }
+}
+
+fn exposure(cpu: bool, dma: bool) -> u8
+    ensures { λ r. ⌜ r ≡ pick cpu 1 0 + pick dma 2 0 ⌝ }
+{
+    if cpu {
+        if dma { 3 } else { 1 }
+    } else {
+        if dma { 2 } else { 0 }
+    }
+}
+
+// A step that does not reset: both reads, and then the stores.
+fn act(l: Layout, s: Step, memory: &mut [u8]) -> StepAnswer
+    requires { ⌜ length (now memory) ≡ P.memoryBytes ⌝ }
+    ensures { λ r. ⌜ (r ≡ E.exposing l s (now (memory .entry))) × (now (memory .exit) ≡ E.storing l s (now (memory .entry))) ⌝ }
+{
+    let cpu_seen = s.reads & !l.cr.holds(s.pc);
+    let dma_seen = s.active & !s.stores;
+    let exposed = exposure(cpu_seen, dma_seen);
+    let cpu = peek(cpu_seen, s.cpu, memory);
+    let dma = peek(dma_seen, s.dma, memory);
+    put(l, s.writes, s.cpu, s.cpudata, memory);
+    put(l, s.active & s.stores, s.dma, s.dmadata, memory);
+    StepAnswer {
+        cause: 0,
+        exposed,
+        cpu,
+        dma,
+    }
+}
+
+// One step: its answer, what the monitor then remembers, and its stores.
+fn judge(l: Layout, m: Monitor, s: Step, memory: &mut [u8]) -> Judged
+    requires { ⌜ length (now memory) ≡ P.memoryBytes ⌝ }
+    ensures { λ r. ⌜ (r .answer ≡ E.answer l m s (now (memory .entry))) × (r .monitor ≡ next l m s) × (now (memory .exit) ≡ E.written l m s (now (memory .entry))) ⌝ }
+{
+    let cause = rules::cause(l, m, s);
+    if cause == 0 {
+        let answer = act(l, s, memory);
+        Judged {
+            answer,
+            monitor: Monitor {
+                held: false,
+                last: s.pc,
+            },
+        }
+    } else {
+        Judged {
+            answer: StepAnswer {
+                cause,
+                exposed: 0,
+                cpu: 0,
+                dma: 0,
+            },
+            monitor: Monitor {
+                held: true,
+                last: s.pc,
+            },
+        }
+    }
+}
+
+// The 12 bytes of a step.
+fn step_bytes(b: &[u8], n: usize) -> [u8; 12]
+    requires { ⌜ R.stepSize * n + R.stepSize ≤ length (now b) ⌝ }
+    ensures { λ r. ⌜ r ≡ R.stepBytes (now (b .entry)) n ⌝ }
+{
+    let p = STEP * n;
+    [
+        b[p],
+        b[p + 1],
+        b[p + 2],
+        b[p + 3],
+        b[p + 4],
+        b[p + 5],
+        b[p + 6],
+        b[p + 7],
+        b[p + 8],
+        b[p + 9],
+        b[p + 10],
+        b[p + 11],
+    ]
+}
+
+// The four answer bytes, at a place of the room.
+fn put_answer(room: &mut [u8], at: usize, a: StepAnswer)
+    requires { ⌜ at + R.answerSize ≤ length (now room) ⌝ }
+    ensures { λ r. ⌜ now (room .exit) ≡ take at (now (room .entry)) ++ E.bytes a ++ drop (at + R.answerSize) (now (room .entry)) ⌝ }
+{
+    room[at] = a.cause;
+    room[at + 1] = a.exposed;
+    room[at + 2] = a.cpu;
+    room[at + 3] = a.dma;
+}
+
+// The first step with a zero bit or byte set; the number of steps if there is none.
+fn first_unclean(b: &[u8]) -> usize
+    ensures { λ r. ⌜ r ≡ P.firstUnclean (now (b .entry)) ⌝ }
+{
+    let n = b.len() / STEP;
+    let mut k: usize = 0;
+    while k < n {
+        if !rules::clean(step_bytes(b, k)) {
+            return k;
+        }
+        k += 1;
+    }
+    k
+}
+
+fn one_if(resets: bool) -> usize
+    ensures { λ r. ⌜ r ≡ pick resets 1 0 ⌝ }
+{
+    if resets { 1 } else { 0 }
+}
+
+// All steps of a trace, from the monitor's start.
+fn run(l: Layout, trace: &[u8], memory: &mut [u8], room: &mut [u8]) -> Totals
+    requires { ⌜ (length (now memory) ≡ P.memoryBytes) × (R.answerSize * R.count (now trace) ≤ length (now room)) ⌝ }
+    ensures { λ r. ⌜ (r ≡ R.totals l (now (trace .entry)) (now (memory .entry))) × (now (memory .exit) ≡ R.memoryAfter l (now (trace .entry)) (now (memory .entry))) × (now (room .exit) ≡ R.roomAfter l (now (trace .entry)) (now (memory .entry)) (now (room .entry))) ⌝ }
+{
+    let steps = trace.len() / STEP;
+    let mut m = Monitor {
+        held: true,
+        last: 0,
+    };
+    let mut resets: usize = 0;
+    let mut i: usize = 0;
+    while i < steps {
+        let s = rules::decode(step_bytes(trace, i));
+        let j = judge(l, m, s, memory);
+        let a = j.answer;
+        put_answer(room, ANSWER * i, a);
+        m = j.monitor;
+        resets += one_if(a.cause != 0);
+        i += 1;
+    }
+    Totals { steps, resets }
+}
+
+// Refusals 7 to 9 of a trace and of so many bytes of answer room.
+pub fn fits(trace: &[u8], room: usize) -> Answer
+    ensures { λ r. ⌜ P.Fits (now (trace .entry)) room r ⌝ }
+{
+    let steps = trace.len() / STEP;
+    if (trace.len() % STEP != 0) | (MOST_STEPS < steps) {
+        return refusal::refused(refusal::TRACE_SIZE);
+    }
+    if room < ANSWER * steps {
+        return refusal::refused(refusal::ROOM_SIZE);
+    }
+    let place = first_unclean(trace);
+    if place < steps {
+        return Answer::Refused(Refusal {
+            number: refusal::STEP_NOT_ZERO,
+            place,
+        });
+    }
+    Answer::Done
+}
+
+// The same of one step.
+fn step_fits(step: &[u8], room: usize) -> Answer
+    ensures { λ r. ⌜ row r ≡ row (P.stepCheck (now (step .entry)) room) ⌝ }
+{
+    if step.len() != STEP {
+        return refusal::refused(refusal::TRACE_SIZE);
+    }
+    if room < ANSWER {
+        return refusal::refused(refusal::ROOM_SIZE);
+    }
+    if !rules::clean(step_bytes(step, 0)) {
+        return refusal::refused(refusal::STEP_NOT_ZERO);
+    }
+    Answer::Done
+}
+
+// Refusals 1 to 6, then those of `rest`; else the layout.
+fn admit(memory: &[u8], layout: &[u8], rest: Answer) -> Checked
+    ensures { λ r. ⌜ L.row r ≡ told (P.callCheck (now (memory .entry)) (now (layout .entry)) rest) (L.values (layoutOf (now (layout .entry)))) ⌝ }
+{
+    if memory.len() != MEMORY {
+        return Checked::Refused(Refusal {
+            number: refusal::MEMORY_SIZE,
+            place: 0,
+        });
+    }
+    match layout::check(layout) {
+        Checked::Good(l) => match rest {
+            Answer::Done => Checked::Good(l),
+            Answer::Refused(r) => Checked::Refused(r),
+        },
+        Checked::Refused(r) => Checked::Refused(r),
+    }
+}
+
+// Judges a trace on lent memory, from the monitor's start, and puts four answer bytes a step into the room.
+// A refused call changes nothing.
+pub fn trace(memory: &mut [u8], layout: &[u8], trace: &[u8], room: &mut [u8]) -> Traced
+    ensures { λ r. ⌜ P.Traces (now (memory .entry)) (now (layout .entry)) (now (trace .entry)) (now (room .entry)) (now (memory .exit)) (now (room .exit)) r ⌝ }
+{
+    let rest = fits(trace, room.len());
+    match admit(memory, layout, rest) {
+        Checked::Good(l) => Traced::Judged(run(l, trace, memory, room)),
+        Checked::Refused(r) => Traced::Refused(r),
+    }
+}
+
+fn run_step(l: Layout, step: &[u8], m: Monitor, memory: &mut [u8], room: &mut [u8]) -> Monitor
+    requires { ⌜ (length (now memory) ≡ P.memoryBytes) × (length (now step) ≡ R.stepSize) × (R.answerSize ≤ length (now room)) ⌝ }
+    ensures { λ r. ⌜ (r ≡ next l m (R.steps (now (step .entry)) 0)) × (now (memory .exit) ≡ E.written l m (R.steps (now (step .entry)) 0) (now (memory .entry))) × (now (room .exit) ≡ E.bytes (E.answer l m (R.steps (now (step .entry)) 0) (now (memory .entry))) ++ drop R.answerSize (now (room .entry))) ⌝ }
+{
+    let s = rules::decode(step_bytes(step, 0));
+    let j = judge(l, m, s, memory);
+    let a = j.answer;
+    put_answer(room, 0, a);
+    j.monitor
+}
+
+// Judges one step on lent memory, from whatever the monitor remembers, and hands back what it then remembers.
+// A refused call changes nothing.
+pub fn step(
+    memory: &mut [u8],
+    layout: &[u8],
+    step: &[u8],
+    monitor: Monitor,
+    room: &mut [u8],
+) -> Stepped
+    ensures { λ r. ⌜ P.Steps (now (memory .entry)) (now (layout .entry)) (now (step .entry)) monitor (now (room .entry)) (now (memory .exit)) (now (room .exit)) r ⌝ }
+{
+    let rest = step_fits(step, room.len());
+    match admit(memory, layout, rest) {
+        Checked::Good(l) => Stepped::Judged(run_step(l, step, monitor, memory, room)),
+        Checked::Refused(r) => Stepped::Refused(r),
+    }
+}

@@ -8,7 +8,7 @@ use lib.Dec.{eqb, ltb}
 use lib.ListN.{length, drop, length-take, length-drop}
 use lib.Seq.{take-take}
 use borrow.Author.Tests.{eqb-true, eq-eqb, ltb-false, le-ltb, not-false}
-use Rattle.refusal.specs.Numbers.{roomSize}
+use Rattle.refusal.specs.Numbers.{roomSize, stepNotZero}
 use Rattle.refusal.specs.declared.Answer.{Answer}
 use Rattle.refusal.specs.declared.Answer.the-variants.{Done}
 use Rattle.refusal.proofs.Tests.{neither}
@@ -17,7 +17,7 @@ use Rattle.refusal.proofs.Order.{done-passed, both-done}
 use Rattle.layout.specs.Layouts.{layoutCheck}
 use Rattle.rules.specs.Steps.{stepOf}
 use Rattle.monitor.specs.Runs.{stepSize, answerSize, count, stepBytes, steps}
-use Rattle.monitor.specs.Promises.{memoryBytes, mostSteps, unclean, traceCheck, stepCheck, callCheck}
+use Rattle.monitor.specs.Promises.{memoryBytes, mostSteps, unclean, firstUnclean, traceCheck, stepCheck, callCheck}
 
 pub call-passed : (memory layout : List ℕ) (rest : Answer) → callCheck memory layout rest ≡ Done
     → (length memory ≡ memoryBytes) × (layoutCheck layout ≡ Done) × (rest ≡ Done)
@@ -42,7 +42,7 @@ unfolding traceCheck
 trace-passed trace room e =
     let p = done-passed (not (eqb (length trace % stepSize) 0) || ltb mostSteps (count trace)) _ _ e in
     let q = done-passed (ltb room (answerSize * count trace)) (record { number = roomSize; place = 0 }) _ (p .1) in
-    let s = done-passed _ _ _ (q .1) in
+    let s = done-passed (ltb (firstUnclean trace) (count trace)) (record { number = stepNotZero; place = firstUnclean trace }) _ (q .1) in
     let t = neither (not (eqb (length trace % stepSize) 0)) (ltb mostSteps (count trace)) (p .0) in
     let w = eqb-true (length trace % stepSize) 0 (not-false _ (t .0)) in
     record {

@@ -1,7 +1,6 @@
 // The monitor on lent memory: one step from whatever it remembers, and a trace from its start.
 use layout::Checked;
 use layout::Layout;
-use layout::Region;
 use refusal::Answer;
 use refusal::Refusal;
 use rules::Monitor;
@@ -113,29 +112,21 @@ fn judge(l: Layout, m: Monitor, s: Step, memory: &mut [u8]) -> Judged
     ensures { λ r. ⌜ (r .answer ≡ E.answer l m s (now (memory .entry))) × (r .monitor ≡ next l m s) × (now (memory .exit) ≡ E.written l m s (now (memory .entry))) ⌝ }
 {
     let cause = rules::cause(l, m, s);
+    let monitor = Monitor {
+        held: cause != 0,
+        last: s.pc,
+    };
     if cause == 0 {
         let answer = act(l, s, memory);
-        Judged {
-            answer,
-            monitor: Monitor {
-                held: false,
-                last: s.pc,
-            },
-        }
-    } else {
-        Judged {
-            answer: StepAnswer {
-                cause,
-                exposed: 0,
-                cpu: 0,
-                dma: 0,
-            },
-            monitor: Monitor {
-                held: true,
-                last: s.pc,
-            },
-        }
+        return Judged { answer, monitor };
     }
+    let answer = StepAnswer {
+        cause,
+        exposed: 0,
+        cpu: 0,
+        dma: 0,
+    };
+    Judged { answer, monitor }
 }
 
 // The 12 bytes of a step.

@@ -1,6 +1,5 @@
 // One step of a trace, what the monitor remembers, and the rules by which a step resets.
 use layout::Layout;
-use layout::Region;
 ghost use mathlib.Core.Path.{_≡_};
 ghost use Rattle.rules.specs.Steps as S;
 ghost use Rattle.rules.specs.Rules as R;

@@ -20,13 +20,13 @@ returns : tie.Need-returns
 unfolding answer next written
 returns c =
     let e = eq-eqb _ _ (sym (c .before .before .before .before .before .cause .ensures) ∙ c .before .before .before .before .if1 .taken) in
-    (simp e (c .before .before .act .ensures .0), simp e, simp e (c .before .before .act .ensures .1))
+    (simp e (c .before .before .act .ensures .0), simp (c .before .before .before .before .before .cause .ensures), simp e (c .before .before .act .ensures .1))
 
 returns-2 : tie.Need-returns-2
 unfolding answer next written
 returns-2 c =
     let e = ne-eqb _ _ (λ q. c .if1 .left (c .before .cause .ensures ∙ q)) in
-    (simp (e, c .before .cause .ensures), simp e, simp e)
+    (simp (e, c .before .cause .ensures), simp (c .before .cause .ensures), simp e)
 
 pub judge-spec : {M : Type 1} → statement M
 judge-spec = tie.close (tie.spec cause-requires act-requires same-length returns returns-2)

@@ -70,8 +70,11 @@ fn put(l: Layout, on: bool, a: u16, v: u8, memory: &mut [u8])
     requires { ⌜ length (now memory) ≡ P.memoryBytes ⌝ }
     ensures { λ r. ⌜ now (memory .exit) ≡ E.stored l on a v (now (memory .entry)) ⌝ }
 {
+    if !on {
+        return;
+    }
     let at = a as usize;
-    if on & !l.cr.holds(a) & !l.kr.holds(a) {
+    if !l.cr.holds(a) & !l.kr.holds(a) {
         memory[at] = v;
     }
 }

@@ -1,1 +1,2 @@
+pub mod None
 pub mod Laws

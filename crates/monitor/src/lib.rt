@@ -79,6 +79,7 @@ fn put(l: Layout, on: bool, a: u16, v: u8, memory: &mut [u8])
     }
 }
 
+// The exposure bits.
 fn exposure(cpu: bool, dma: bool) -> u8
     ensures { λ r. ⌜ r ≡ pick cpu 1 0 + pick dma 2 0 ⌝ }
 {
@@ -92,7 +93,8 @@ fn exposure(cpu: bool, dma: bool) -> u8
 // A step that does not reset: both reads, and then the stores.
 fn act(l: Layout, s: Step, memory: &mut [u8]) -> StepAnswer
     requires { ⌜ length (now memory) ≡ P.memoryBytes ⌝ }
-    ensures { λ r. ⌜ (r ≡ E.exposing l s (now (memory .entry))) × (now (memory .exit) ≡ E.storing l s (now (memory .entry))) ⌝ }
+    ensures { λ r. ⌜ (r ≡ E.exposing l s (now (memory .entry)))
+        × (now (memory .exit) ≡ E.storing l s (now (memory .entry))) ⌝ }
 {
     let cpu_seen = s.reads & !l.cr.holds(s.pc);
     let dma_seen = s.active & !s.stores;
@@ -112,7 +114,9 @@ fn act(l: Layout, s: Step, memory: &mut [u8]) -> StepAnswer
 // One step: its answer, what the monitor then remembers, and its stores.
 fn judge(l: Layout, m: Monitor, s: Step, memory: &mut [u8]) -> Judged
     requires { ⌜ length (now memory) ≡ P.memoryBytes ⌝ }
-    ensures { λ r. ⌜ (r .answer ≡ E.answer l m s (now (memory .entry))) × (r .monitor ≡ next l m s) × (now (memory .exit) ≡ E.written l m s (now (memory .entry))) ⌝ }
+    ensures { λ r. ⌜ (r .answer ≡ E.answer l m s (now (memory .entry)))
+        × (r .monitor ≡ next l m s)
+        × (now (memory .exit) ≡ E.written l m s (now (memory .entry))) ⌝ }
 {
     let cause = rules::cause(l, m, s);
     let monitor = Monitor {
@@ -189,7 +193,9 @@ fn one_if(resets: bool) -> usize
 // All steps of a trace, from the monitor's start.
 fn run(l: Layout, trace: &[u8], memory: &mut [u8], room: &mut [u8]) -> Totals
     requires { ⌜ (length (now memory) ≡ P.memoryBytes) × (R.answerSize * R.count (now trace) ≤ length (now room)) ⌝ }
-    ensures { λ r. ⌜ (r ≡ R.totals l (now (trace .entry)) (now (memory .entry))) × (now (memory .exit) ≡ R.memoryAfter l (now (trace .entry)) (now (memory .entry))) × (now (room .exit) ≡ R.roomAfter l (now (trace .entry)) (now (memory .entry)) (now (room .entry))) ⌝ }
+    ensures { λ r. ⌜ (r ≡ R.totals l (now (trace .entry)) (now (memory .entry)))
+        × (now (memory .exit) ≡ R.memoryAfter l (now (trace .entry)) (now (memory .entry)))
+        × (now (room .exit) ≡ R.roomAfter l (now (trace .entry)) (now (memory .entry)) (now (room .entry))) ⌝ }
 {
     let steps = trace.len() / STEP;
     let mut m = Monitor {
@@ -249,7 +255,9 @@ fn step_fits(step: &[u8], room: usize) -> Answer
 
 // Refusals 1 to 6, then those of `rest`; else the layout.
 fn admit(memory: &[u8], layout: &[u8], rest: Answer) -> Checked
-    ensures { λ r. ⌜ L.row r ≡ told (P.callCheck (now (memory .entry)) (now (layout .entry)) rest) (L.values (layoutOf (now (layout .entry)))) ⌝ }
+    ensures { λ r. ⌜ L.row r
+        ≡ told (P.callCheck (now (memory .entry)) (now (layout .entry)) rest)
+        (L.values (layoutOf (now (layout .entry)))) ⌝ }
 {
     if memory.len() != MEMORY {
         return Checked::Refused(Refusal {
@@ -269,7 +277,8 @@ fn admit(memory: &[u8], layout: &[u8], rest: Answer) -> Checked
 // Judges a trace on lent memory, from the monitor's start, and puts four answer bytes a step into the room.
 // A refused call changes nothing.
 pub fn trace(memory: &mut [u8], layout: &[u8], trace: &[u8], room: &mut [u8]) -> Traced
-    ensures { λ r. ⌜ P.Traces (now (memory .entry)) (now (layout .entry)) (now (trace .entry)) (now (room .entry)) (now (memory .exit)) (now (room .exit)) r ⌝ }
+    ensures { λ r. ⌜ P.Traces (now (memory .entry)) (now (layout .entry)) (now (trace .entry)) (now (room .entry))
+        (now (memory .exit)) (now (room .exit)) r ⌝ }
 {
     let rest = fits(trace, room.len());
     match admit(memory, layout, rest) {
@@ -279,8 +288,12 @@ pub fn trace(memory: &mut [u8], layout: &[u8], trace: &[u8], room: &mut [u8]) ->
 }
 
 fn run_step(l: Layout, step: &[u8], m: Monitor, memory: &mut [u8], room: &mut [u8]) -> Monitor
-    requires { ⌜ (length (now memory) ≡ P.memoryBytes) × (length (now step) ≡ R.stepSize) × (R.answerSize ≤ length (now room)) ⌝ }
-    ensures { λ r. ⌜ (r ≡ next l m (R.steps (now (step .entry)) 0)) × (now (memory .exit) ≡ E.written l m (R.steps (now (step .entry)) 0) (now (memory .entry))) × (now (room .exit) ≡ E.bytes (E.answer l m (R.steps (now (step .entry)) 0) (now (memory .entry))) ++ drop R.answerSize (now (room .entry))) ⌝ }
+    requires { ⌜ (length (now memory) ≡ P.memoryBytes)
+        × (length (now step) ≡ R.stepSize)
+        × (R.answerSize ≤ length (now room)) ⌝ }
+    ensures { λ r. ⌜ (r ≡ next l m (R.steps (now (step .entry)) 0))
+        × (now (memory .exit) ≡ E.written l m (R.steps (now (step .entry)) 0) (now (memory .entry)))
+        × (now (room .exit) ≡ E.bytes (E.answer l m (R.steps (now (step .entry)) 0) (now (memory .entry))) ++ drop R.answerSize (now (room .entry))) ⌝ }
 {
     let s = rules::decode(step_bytes(step, 0));
     let j = judge(l, m, s, memory);
@@ -298,7 +311,8 @@ pub fn step(
     monitor: Monitor,
     room: &mut [u8],
 ) -> Stepped
-    ensures { λ r. ⌜ P.Steps (now (memory .entry)) (now (layout .entry)) (now (step .entry)) monitor (now (room .entry)) (now (memory .exit)) (now (room .exit)) r ⌝ }
+    ensures { λ r. ⌜ P.Steps (now (memory .entry)) (now (layout .entry)) (now (step .entry)) monitor (now (room .entry))
+        (now (memory .exit)) (now (room .exit)) r ⌝ }
 {
     let rest = step_fits(step, room.len());
     match admit(memory, layout, rest) {

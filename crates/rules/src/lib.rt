@@ -6,7 +6,7 @@ ghost use Rattle.layout.specs.Regions.{outside};
 ghost use Rattle.rules.specs.Steps as S;
 ghost use Rattle.rules.specs.Rules as R;
 
-// A step, with the CPU's address and data and the DMA's.
+// A step: the addresses and data of CPU and DMA, and the flag bits. `active` and `stores` are the DMA's two.
 pub struct Step {
     pub pc: u16,
     pub cpu: u16,
@@ -40,6 +40,7 @@ struct Broken {
     r10: bool,
 }
 
+// The same, of the rules on the PC, on the CPU's access and on the DMA's.
 struct PcRules {
     r2: bool,
     r3: bool,
@@ -90,7 +91,9 @@ pub fn clean(b: [u8; 12]) -> bool
 
 // The rules on the way into CR and out of it, and on interrupts there. Most steps stay outside.
 fn pc_rules(l: Layout, m: Monitor, s: Step) -> PcRules
-    ensures { λ r. ⌜ (r .r2 ≡ (not (m .held) && R.rule2 l m s)) × (r .r3 ≡ (not (m .held) && R.rule3 l m s)) × (r .r4 ≡ (not (m .held) && R.rule4 l s)) ⌝ }
+    ensures { λ r. ⌜ (r .r2 ≡ (not (m .held) && R.rule2 l m s))
+        × (r .r3 ≡ (not (m .held) && R.rule3 l m s))
+        × (r .r4 ≡ (not (m .held) && R.rule4 l s)) ⌝ }
 {
     let pc_cr = l.cr.holds(s.pc);
     let last_cr = l.cr.holds(m.last);
@@ -110,7 +113,10 @@ fn pc_rules(l: Layout, m: Monitor, s: Step) -> PcRules
 
 // The rules on the CPU's access. Most steps have none.
 fn cpu_rules(l: Layout, m: Monitor, s: Step) -> CpuRules
-    ensures { λ r. ⌜ (r .r1 ≡ R.rule1 l s) × (r .r5 ≡ R.rule5 l s) × (r .r6 ≡ (not (m .held) && R.rule6 l s)) × (r .r10 ≡ (outside (l .cr) (s .pc) && R.cpuWrites (l .ctr) s)) ⌝ }
+    ensures { λ r. ⌜ (r .r1 ≡ R.rule1 l s)
+        × (r .r5 ≡ R.rule5 l s)
+        × (r .r6 ≡ (not (m .held) && R.rule6 l s))
+        × (r .r10 ≡ (outside (l .cr) (s .pc) && R.cpuWrites (l .ctr) s)) ⌝ }
 {
     if !(s.reads | s.writes) {
         return CpuRules {
@@ -135,7 +141,10 @@ fn cpu_rules(l: Layout, m: Monitor, s: Step) -> CpuRules
 
 // The rules on the DMA's access.
 fn dma_rules(l: Layout, m: Monitor, s: Step) -> DmaRules
-    ensures { λ r. ⌜ (r .r7 ≡ R.rule7 l s) × (r .r8 ≡ R.rule8 l s) × (r .r9 ≡ (not (m .held) && R.rule9 l s)) × (r .r10 ≡ R.dmaWrites (l .ctr) s) ⌝ }
+    ensures { λ r. ⌜ (r .r7 ≡ R.rule7 l s)
+        × (r .r8 ≡ R.rule8 l s)
+        × (r .r9 ≡ (not (m .held) && R.rule9 l s))
+        × (r .r10 ≡ R.dmaWrites (l .ctr) s) ⌝ }
 {
     if !s.active {
         return DmaRules {

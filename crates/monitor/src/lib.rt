@@ -98,11 +98,13 @@ fn act(l: Layout, s: Step, memory: &mut [u8]) -> StepAnswer
 {
     let cpu_seen = s.reads & !l.cr.holds(s.pc);
     let dma_seen = s.active & !s.stores;
+    let cpu_stores = s.writes;
+    let dma_stores = s.active & s.stores;
     let exposed = exposure(cpu_seen, dma_seen);
     let cpu = peek(cpu_seen, s.cpu, memory);
     let dma = peek(dma_seen, s.dma, memory);
-    put(l, s.writes, s.cpu, s.cpudata, memory);
-    put(l, s.active & s.stores, s.dma, s.dmadata, memory);
+    put(l, cpu_stores, s.cpu, s.cpudata, memory);
+    put(l, dma_stores, s.dma, s.dmadata, memory);
     StepAnswer {
         cause: 0,
         exposed,

@@ -28,8 +28,8 @@ same-length c = search needs
 returns : tie.Need-returns
 unfolding exposing storing
 returns c = (
-  simp (c .before .before .before .before .before .before .before .before .before .before .before .before .before .before .before .before .before .holds .ensures, c .before .before .before .before .before .before .before .before .before .before .before .before .before .exposure .ensures, c .before .before .before .before .before .before .before .before .before .before .before .peek .ensures, c .before .before .before .before .before .before .before .before .before .peek2 .ensures),
-  simp (c .before .before .put2 .ensures, c .before .before .before .before .before .before .before .put .ensures),
+  simp (c .before .before .before .before .before .before .before .before .before .before .before .before .before .before .before .before .before .holds .ensures, c .before .before .before .before .before .before .before .before .before .before .before .before .exposure .ensures, c .before .before .before .before .before .before .before .before .before .before .peek .ensures, c .before .before .before .before .before .before .before .before .peek2 .ensures),
+  simp (c .before .before .put2 .ensures, c .before .before .before .before .before .before .put .ensures),
 )
 
 pub act-spec : {M : Type 1} → statement M

@@ -8,19 +8,15 @@ use native.Mathlib.Omega.{arith}
 use lib.Dec.{eqb}
 use borrow.Author.Tests.{eqb-true, eqb-false, ne-eqb}
 use Rattle.refusal.specs.First.{first}
-use Rattle.refusal.proofs.Tests.{cases, clash}
+use Rattle.refusal.proofs.Tests.{cases, untrue, clash}
 use Rattle.rules.specs.declared.Monitor.{Monitor}
 use Rattle.rules.specs.Rules.{broken, numbered, cause, next}
+use Rattle.rules.proofs.Laws.{breaks-resets, inside-unheld}
 use Rattle.monitor.specs.Runs.{before}
 use Rattle.demands.specs.Traces.{remembers, causeAt, resetsAt}
 use Rattle.demands.specs.Vrased as claim
 use Rattle.demands.specs.Vrased.{Run, PC, address, reset, zeroOutside, _∈_, _is_, _U_, CR}
-use Rattle.rules.proofs.Laws.{breaks-resets, inside-unheld}
 use Rattle.demands.proofs.Traces.{hold-next}
-
-fails : (t : Bool) → (t ≡ true → ⊥) → t ≡ false
-fails true f = absurd (f refl)
-fails false f = refl
 
 -- ---- a broken rule resets
 
@@ -43,17 +39,17 @@ module _ (r : Run) (n : ℕ) where
 -- ---- the properties
 
 pub ltl-3-2 : claim.ltl-3-2
-ltl-3-2 r n _ (o, (e, a)) = by-rule r n 1 (omega arith) (simp (fails _ o, e, a))
+ltl-3-2 r n _ (o, (e, a)) = by-rule r n 1 (omega arith) (simp (untrue _ o, e, a))
 
 pub ltl-3-3 : claim.ltl-3-3
 unfolding before next
 ltl-3-3 r n _ (p, (i, o)) q =
-    by-rule r (suc n) 2 (omega arith) (simp (fails _ p, i, fails _ o, ne-eqb (PC r n) (claim.CRmax r n) q))
+    by-rule r (suc n) 2 (omega arith) (simp (untrue _ p, i, untrue _ o, ne-eqb (PC r n) (claim.CRmax r n) q))
 
 pub ltl-3-4 : claim.ltl-3-4
 unfolding before next
 ltl-3-4 r n _ (p, (o, i)) q =
-    by-rule r (suc n) 3 (omega arith) (simp (fails _ p, fails _ o, i, ne-eqb (PC r (suc n)) (claim.CRmin r n) q))
+    by-rule r (suc n) 3 (omega arith) (simp (untrue _ p, untrue _ o, i, ne-eqb (PC r (suc n)) (claim.CRmin r n) q))
 
 pub ltl-3-5 : claim.ltl-3-5
 ltl-3-5 r z n _ (e, i) = by-rule-inside r n 4 (omega arith) z i (λ u. simp (u, e, i))
@@ -61,11 +57,11 @@ ltl-3-5 r z n _ (e, i) = by-rule-inside r n 4 (omega arith) z i (λ u. simp (u, 
 pub ltl-3-6 : claim.ltl-3-6
 ltl-3-6 r n _ (o, (e, a)) =
     by-rule r n 5 (omega arith)
-    (cases (r .trace n .reads) (λ h. simp (fails _ o, h, a)) (λ h. simp (fails _ o, h, a, e (λ g. clash _ g h))))
+    (cases (r .trace n .reads) (λ h. simp (untrue _ o, h, a)) (λ h. simp (untrue _ o, h, a, e (λ g. clash _ g h))))
 
 pub ltl-3-7 : claim.ltl-3-7
 ltl-3-7 r z n _ (i, (e, (a, (b, c)))) =
-    by-rule-inside r n 6 (omega arith) z i (λ u. simp (u, i, e, fails _ a, fails _ b, fails _ c))
+    by-rule-inside r n 6 (omega arith) z i (λ u. simp (u, i, e, untrue _ a, untrue _ b, untrue _ c))
 
 pub ltl-3-8 : claim.ltl-3-8
 ltl-3-8 r n _ (e, a) = by-rule r n 7 (omega arith) (simp (e, a))
@@ -77,7 +73,7 @@ pub ltl-3-10 : claim.ltl-3-10
 ltl-3-10 r z n _ (i, e) = by-rule-inside r n 9 (omega arith) z i (λ u. simp (u, e, i))
 
 pub ltl-3-15 : claim.ltl-3-15
-ltl-3-15 r n _ (o, (e, a)) = by-rule r n 10 (omega arith) (simp (fails _ o, e, a))
+ltl-3-15 r n _ (o, (e, a)) = by-rule r n 10 (omega arith) (simp (untrue _ o, e, a))
 
 pub ltl-3-16 : claim.ltl-3-16
 ltl-3-16 r n _ (e, (w, a)) = by-rule r n 10 (omega arith) (simp (e, w, a, or-true))

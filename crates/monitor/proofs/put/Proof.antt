@@ -4,9 +4,6 @@ use borrow.Author.Tests.{not-true, not-false}
 use Rattle.monitor.specs.Effects.{stored}
 use Rattle.monitor.proofs.put.Statement.{statement}
 use Rattle.monitor.proofs.put.Tie as tie
-use Rattle.monitor.proofs.put.Reads as reads
-use Rattle.monitor.proofs.put.Lts as lts
-use Rattle.layout.proofs.Region.holds.Reads as holds-reads
 
 returns : tie.Need-returns
 unfolding stored

@@ -2,11 +2,6 @@
 use borrow.Author.Needs.{needs}
 use Rattle.rules.proofs.breaks.Statement.{statement}
 use Rattle.rules.proofs.breaks.Tie as tie
-use Rattle.rules.proofs.breaks.Reads as reads
-use Rattle.rules.proofs.breaks.Lts as lts
-use Rattle.rules.proofs.cpu_rules.Reads as cpu-rules-reads
-use Rattle.rules.proofs.dma_rules.Reads as dma-rules-reads
-use Rattle.rules.proofs.pc_rules.Reads as pc-rules-reads
 
 pc-rules-requires : tie.Need-pc-rules-requires
 pc-rules-requires c κs = search needs

@@ -4,9 +4,6 @@ use borrow.Author.Tests.{not-true}
 use Rattle.rules.proofs.None.{cpu-none}
 use Rattle.rules.proofs.cpu_rules.Statement.{statement}
 use Rattle.rules.proofs.cpu_rules.Tie as tie
-use Rattle.rules.proofs.cpu_rules.Reads as reads
-use Rattle.rules.proofs.cpu_rules.Lts as lts
-use Rattle.layout.proofs.Region.holds.Reads as holds-reads
 
 returns : tie.Need-returns
 returns c = cpu-none (c .before .before .args .l) (c .before .before .args .m) (c .before .before .args .s) (not-true _ (c .if1 .taken))

@@ -2,12 +2,9 @@
 use mathlib.Core.Path.{sym}
 use borrow.Author.Tests.{not-true}
 use Rattle.rules.proofs.None.{none-lowest}
-use borrow.Author.Needs.{needs}
 use Rattle.refusal.specs.First.{first}
 use Rattle.rules.proofs.lowest.Statement.{statement}
 use Rattle.rules.proofs.lowest.Tie as tie
-use Rattle.rules.proofs.lowest.Reads as reads
-use Rattle.rules.proofs.lowest.Lts as lts
 
 returns : tie.Need-returns
 returns c = sym (none-lowest (c .before .before .before .before .before .before .before .before .before .before .args .b) (not-true _ (c .if1 .taken)))

@@ -6,9 +6,6 @@ use Rattle.refusal.proofs.Tests.{neither}
 use Rattle.rules.proofs.None.{pc-none}
 use Rattle.rules.proofs.pc_rules.Statement.{statement}
 use Rattle.rules.proofs.pc_rules.Tie as tie
-use Rattle.rules.proofs.pc_rules.Reads as reads
-use Rattle.rules.proofs.pc_rules.Lts as lts
-use Rattle.layout.proofs.Region.holds.Reads as holds-reads
 
 holds-requires : tie.Need-holds-requires
 holds-requires c κs = search needs

@@ -14,9 +14,10 @@ use Rattle.refusal.proofs.First.{first-same}
 use Rattle.refusal.proofs.Tests.{cases}
 use Rattle.layout.specs.declared.Layout.{Layout}
 use Rattle.layout.specs.Layouts.{layoutOf}
+use Rattle.layout.specs.Calls.{callCheck}
 use Rattle.rules.specs.Steps.{stepOf, clean}
 use Rattle.monitor.specs.Runs.{stepSize, count, stepBytes, steps, begin, before, memoryAfter}
-use Rattle.monitor.specs.Promises.{unclean, traceCheck, stepCheck, callCheck}
+use Rattle.monitor.specs.Promises.{unclean, traceCheck, stepCheck}
 use Rattle.monitor.specs.Settled.{traced-row-settled, stepped-row-settled}
 use Rattle.monitor.proofs.Laws.{step-byte}
 use Rattle.demands.specs.Demand3.{Agree, scratch, with, blank, cpuData, SameTrace, EitherTells, Demand3Calls, Demand3Steps}

@@ -18,6 +18,8 @@ use Rattle.refusal.specs.declared.Answer.the-variants.{Done, Refused}
 use Rattle.refusal.proofs.Tests.{cases, clash, both}
 use Rattle.layout.specs.declared.Layout.{Layout}
 use Rattle.layout.specs.Layouts.{layoutOf, layoutCheck}
+use Rattle.layout.specs.Calls.{memoryBytes, callCheck}
+use Rattle.layout.proofs.Calls.{call-passed, call-rest}
 use Rattle.layout.specs.Regions.{within, outside}
 use Rattle.rules.specs.declared.Step.{Step}
 use Rattle.rules.specs.declared.Monitor.{Monitor}
@@ -32,8 +34,8 @@ use Rattle.monitor.specs.Effects.{cpuExposed, dmaExposed, exposing, answer, byt
 use Rattle.monitor.specs.Runs.{State, stepSize, answerSize, count, stepBytes, steps, begin, before, said, resetting, totals}
 use Rattle.monitor.specs.Settled.{traced-row-settled, stepped-row-settled}
 use Rattle.monitor.proofs.Laws.{length-before, written-byte, answer-at}
-use Rattle.monitor.proofs.Checks.{Fitting, call-passed, call-passes, trace-passed, one-step, one-passes}
-use Rattle.monitor.specs.Promises.{memoryBytes, traceCheck, stepCheck, callCheck, values, tracedRow, Traces}
+use Rattle.monitor.proofs.Checks.{Fitting, trace-passed, one-step, one-passes}
+use Rattle.monitor.specs.Promises.{traceCheck, stepCheck, values, tracedRow, Traces}
 use Rattle.demands.specs.Traces as claim
 use Rattle.demands.specs.Traces.{crOrKr, ctrOrXs, remembers, causeAt, resetsAt}
 use Rattle.demands.proofs.Runs.{in-parts}
@@ -266,9 +268,9 @@ module _ (memory layout trace room memory′ room′ : List ℕ) (total : Totals
   module _ (i : ℕ) (h : i < count trace) (m : monitors i ≡ stands i .monitor) (b : memories i ≡ stands i .memory) where
     done : callCheck (memories i) layout (stepCheck (stepBytes trace i) (length (rooms i))) ≡ Done
     done =
-        call-passes (memories i) layout _
+        call-rest (memories i) layout _
         (ap length b ∙ length-kept (layoutOf layout) (steps trace) (begin memory) i ∙ tests .0) (tests .1)
-        (one-passes trace (length room) fitting i h (length (rooms i)) (each .fits i h))
+        ∙ (one-passes trace (length room) fitting i h (length (rooms i)) (each .fits i h))
 
     judged : r i ≡ stepped.Judged (stands (suc i) .monitor)
     unfolding before

@@ -11,11 +11,12 @@ use Rattle.refusal.specs.declared.Answer.the-variants.{Done}
 use Rattle.layout.specs.declared.Region.{Region}
 use Rattle.layout.specs.Regions.{outside}
 use Rattle.layout.specs.Layouts.{layoutOf, layoutCheck}
+use Rattle.layout.specs.Calls.{callCheck}
 use Rattle.rules.specs.Steps.{stepOf}
 use Rattle.rules.specs.Rules.{cause, next}
 use Rattle.monitor.specs.Effects.{exposing, answer, stored, storing, written}
 use Rattle.monitor.specs.Runs.{begin, steps, before, answers, resetting}
-use Rattle.monitor.specs.Promises.{traceCheck, callCheck}
+use Rattle.monitor.specs.Promises.{traceCheck}
 use Rattle.demands.specs.Demand3.{Agree, SameTrace}
 use Rattle.demands.specs.Witness.{layout, zeros, board, trace, room, answered, Call, Demand3Witness}
 

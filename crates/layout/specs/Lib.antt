@@ -1,5 +1,6 @@
 pub mod Regions
 pub mod Layouts
+pub mod Calls
 pub mod Promises
 pub mod Settled
 pub mod Good

@@ -1,14 +1,16 @@
--- What the check of a layout promises, for all inputs. Assumes nothing.
+-- What the check of a layout, and that of a call on a memory, promise, for all inputs. Assumes nothing.
 use mathlib.Core.Path.{_≡_}
 use mathlib.Core.List.{List, [], _∷_}
 use Prim.Native.Nat.{ℕ}
 use Rattle.refusal.specs.Answers as A
 use Rattle.refusal.specs.Answers.{told}
+use Rattle.refusal.specs.declared.Answer.{Answer}
 use Rattle.refusal.specs.declared.Answer.the-variants as answer
 use Rattle.layout.specs.declared.Layout.{Layout}
 use Rattle.layout.specs.declared.Checked.{Checked}
 use Rattle.layout.specs.declared.Checked.the-variants.{Good, Refused}
 use Rattle.layout.specs.Layouts.{layoutOf, layoutCheck}
+use Rattle.layout.specs.Calls.{callCheck}
 
 -- a layout's twelve numbers
 abbrev pub values : Layout → List ℕ
@@ -23,3 +25,7 @@ row (Refused r) = A.row (answer.Refused r)
 -- `check`: the layout that the bytes describe, or the refusal that they earn
 pub record Checks (b : List ℕ) (r : Checked) : Type 0 where
   pub answered : row r ≡ told (layoutCheck b) (values (layoutOf b))
+
+-- `admit`: the layout that the bytes describe, or the refusal that the call earns by them, its memory and the rest
+pub record Admits (memory layout : List ℕ) (rest : Answer) (r : Checked) : Type 0 where
+  pub answered : row r ≡ told (callCheck memory layout rest) (values (layoutOf layout))

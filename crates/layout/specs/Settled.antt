@@ -1,13 +1,14 @@
--- A row settles the check's answer, and the promise of `check` its result. Assumes nothing.
+-- A row settles the answer of a check, and the promises of `check` and `admit` their results. Assumes nothing.
 use mathlib.Core.Path.{_≡_, ap, sym, _∙_}
 use mathlib.Core.List.{List}
 use Prim.Native.Nat.{ℕ, _+_}
 use native.Mathlib.Omega.{arith}
 use lib.ListN.{getD}
+use Rattle.refusal.specs.declared.Answer.{Answer}
 use Rattle.layout.specs.declared.Region.{Region}
 use Rattle.layout.specs.declared.Checked.{Checked}
 use Rattle.layout.specs.declared.Checked.the-variants.{Good, Refused}
-use Rattle.layout.specs.Promises.{row, Checks}
+use Rattle.layout.specs.Promises.{row, Checks, Admits}
 
 -- the answers that a row tells, read back from it
 abbrev pair : List ℕ → ℕ → Region
@@ -27,3 +28,7 @@ row-settled (Refused r) (Refused s) e = ap refused e
 
 pub checks-settled : (b : List ℕ) (r q : Checked) → Checks b r → Checks b q → r ≡ q
 checks-settled b r q p p′ = row-settled r q (p .answered ∙ sym (p′ .answered))
+
+pub admits-settled : (memory layout : List ℕ) (rest : Answer) (r q : Checked)
+    → Admits memory layout rest r → Admits memory layout rest q → r ≡ q
+admits-settled memory layout rest r q p p′ = row-settled r q (p .answered ∙ sym (p′ .answered))

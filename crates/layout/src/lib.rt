@@ -34,6 +34,9 @@ const BYTES: usize = 24;
 
 const REGIONS: usize = 6;
 
+// The bytes of a board's memory.
+const MEMORY: usize = 65_536;
+
 const KR: usize = 1;
 
 const MR: usize = 3;
@@ -201,5 +204,24 @@ pub fn check(layout: &[u8]) -> Checked
     match vet(layout) {
         Answer::Done => Checked::Good(read(layout)),
         Answer::Refused(r) => Checked::Refused(r),
+    }
+}
+
+// For a call on a board's memory: refusals 1 to 6, then those of `rest`; else the layout.
+pub fn admit(memory: &[u8], layout: &[u8], rest: Answer) -> Checked
+    ensures { λ r. ⌜ P.Admits (now (memory .entry)) (now (layout .entry)) rest r ⌝ }
+{
+    if memory.len() != MEMORY {
+        return Checked::Refused(Refusal {
+            number: refusal::MEMORY_SIZE,
+            place: 0,
+        });
+    }
+    match check(layout) {
+        Checked::Good(l) => match rest {
+            Answer::Done => Checked::Good(l),
+            Answer::Refused(r) => Checked::Refused(r),
+        },
+        Checked::Refused(r) => Checked::Refused(r),
     }
 }

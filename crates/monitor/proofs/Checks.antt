@@ -9,26 +9,13 @@ use lib.ListN.{length, drop, length-take, length-drop}
 use lib.Seq.{take-take}
 use borrow.Author.Tests.{eqb-true, eq-eqb, ltb-false, le-ltb, not-false}
 use Rattle.refusal.specs.Numbers.{roomSize, stepNotZero}
-use Rattle.refusal.specs.declared.Answer.{Answer}
 use Rattle.refusal.specs.declared.Answer.the-variants.{Done}
 use Rattle.refusal.proofs.Tests.{neither}
 use Rattle.refusal.proofs.First.{none-found}
-use Rattle.refusal.proofs.Order.{done-passed, both-done}
-use Rattle.layout.specs.Layouts.{layoutCheck}
+use Rattle.refusal.proofs.Order.{done-passed}
 use Rattle.rules.specs.Steps.{stepOf}
 use Rattle.monitor.specs.Runs.{stepSize, answerSize, count, stepBytes, steps}
-use Rattle.monitor.specs.Promises.{memoryBytes, mostSteps, unclean, firstUnclean, traceCheck, stepCheck, callCheck}
-
-pub call-passed : (memory layout : List ℕ) (rest : Answer) → callCheck memory layout rest ≡ Done
-    → (length memory ≡ memoryBytes) × (layoutCheck layout ≡ Done) × (rest ≡ Done)
-call-passed memory layout rest e =
-    let p = done-passed (not (eqb (length memory) memoryBytes)) _ _ e in
-    let q = both-done (layoutCheck layout) rest (p .1) in
-    (eqb-true (length memory) memoryBytes (not-false _ (p .0)), q .0, q .1)
-
-pub call-passes : (memory layout : List ℕ) (rest : Answer) → length memory ≡ memoryBytes → layoutCheck layout ≡ Done → rest ≡ Done
-    → callCheck memory layout rest ≡ Done
-call-passes memory layout rest w e f = simp (eq-eqb (length memory) memoryBytes w, e, f)
+use Rattle.monitor.specs.Promises.{mostSteps, unclean, firstUnclean, traceCheck, stepCheck}
 
 -- a trace that passes is whole steps, not too many, with room for the answers, and each step is clean
 pub record Fitting (trace : List ℕ) (room : ℕ) : Type 0 where

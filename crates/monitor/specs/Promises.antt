@@ -8,11 +8,12 @@ use lib.ListN.{length, drop}
 use Rattle.refusal.specs.Choice.{pick}
 use Rattle.refusal.specs.First.{first}
 use Rattle.refusal.specs.Answers as A
-use Rattle.refusal.specs.Answers.{refusedAt, andThen, told, lent}
-use Rattle.refusal.specs.Numbers.{memorySize, traceSize, roomSize, stepNotZero}
+use Rattle.refusal.specs.Answers.{refusedAt, told, lent}
+use Rattle.refusal.specs.Numbers.{traceSize, roomSize, stepNotZero}
 use Rattle.refusal.specs.declared.Answer.{Answer}
 use Rattle.refusal.specs.declared.Answer.the-variants as call
-use Rattle.layout.specs.Layouts.{layoutOf, layoutCheck}
+use Rattle.layout.specs.Layouts.{layoutOf}
+use Rattle.layout.specs.Calls.{callCheck}
 use Rattle.rules.specs.declared.Monitor.{Monitor}
 use Rattle.rules.specs.Steps.{clean}
 use Rattle.rules.specs.Rules.{next}
@@ -25,10 +26,6 @@ use Rattle.monitor.specs.Effects.{bytes, written, answer}
 use Rattle.monitor.specs.Runs.{stepSize, answerSize, count, stepBytes, steps, memoryAfter, roomAfter, totals}
 
 -- ---- refusals
-
--- the memory has one byte for each address
-abbrev pub memoryBytes : ℕ
-memoryBytes = 65536
 
 abbrev pub mostSteps : ℕ
 mostSteps = 4096
@@ -53,11 +50,6 @@ stepCheck b room =
     pick (not (eqb (length b) stepSize)) (refusedAt traceSize 0)
     (pick (ltb room answerSize) (refusedAt roomSize 0)
     (pick (unclean b 0) (refusedAt stepNotZero 0) call.Done))
-
--- refusal 1, then the layout's, then the rest
-abbrev pub callCheck : List ℕ → List ℕ → Answer → Answer
-callCheck memory layout rest =
-    pick (not (eqb (length memory) memoryBytes)) (refusedAt memorySize 0) (andThen (layoutCheck layout) rest)
 
 -- ---- answers
 

@@ -11,9 +11,8 @@ ghost use mathlib.Core.List.{_++_};
 ghost use Prim.Native.Nat.{_+_, _*_, _/_, _≤_, _<_};
 ghost use lib.ListN.{length, getD, take, drop};
 ghost use Rattle.refusal.specs.Choice.{pick};
-ghost use Rattle.refusal.specs.Answers.{row, told};
-ghost use Rattle.layout.specs.Layouts.{layoutOf};
-ghost use Rattle.layout.specs.Promises as L;
+ghost use Rattle.refusal.specs.Answers.{row};
+ghost use Rattle.layout.specs.Calls.{memoryBytes};
 ghost use Rattle.rules.specs.Rules.{next};
 ghost use Rattle.monitor.specs.Effects as E;
 ghost use Rattle.monitor.specs.Runs as R;
@@ -48,8 +47,6 @@ struct Judged {
     monitor: Monitor,
 }
 
-const MEMORY: usize = 65_536;
-
 const STEP: usize = 12;
 
 const ANSWER: usize = 4;
@@ -58,7 +55,7 @@ const MOST_STEPS: usize = 4096;
 
 // The byte at an address, or 0 where it is not exposed.
 fn peek(on: bool, a: u16, memory: &[u8]) -> u8
-    requires { ⌜ length (now memory) ≡ P.memoryBytes ⌝ }
+    requires { ⌜ length (now memory) ≡ memoryBytes ⌝ }
     ensures { λ r. ⌜ r ≡ pick on (getD (now (memory .entry)) a 0) 0 ⌝ }
 {
     let at = a as usize;
@@ -67,7 +64,7 @@ fn peek(on: bool, a: u16, memory: &[u8]) -> u8
 
 // A store, which has no effect in CR and KR.
 fn put(l: Layout, on: bool, a: u16, v: u8, memory: &mut [u8])
-    requires { ⌜ length (now memory) ≡ P.memoryBytes ⌝ }
+    requires { ⌜ length (now memory) ≡ memoryBytes ⌝ }
     ensures { λ r. ⌜ now (memory .exit) ≡ E.stored l on a v (now (memory .entry)) ⌝ }
 {
     if !on {
@@ -92,7 +89,7 @@ fn exposure(cpu: bool, dma: bool) -> u8
 
 // A step that does not reset: both reads, and then the stores.
 fn act(l: Layout, s: Step, memory: &mut [u8]) -> StepAnswer
-    requires { ⌜ length (now memory) ≡ P.memoryBytes ⌝ }
+    requires { ⌜ length (now memory) ≡ memoryBytes ⌝ }
     ensures { λ r. ⌜ (r ≡ E.exposing l s (now (memory .entry)))
         × (now (memory .exit) ≡ E.storing l s (now (memory .entry))) ⌝ }
 {
@@ -115,7 +112,7 @@ fn act(l: Layout, s: Step, memory: &mut [u8]) -> StepAnswer
 
 // One step: its answer, what the monitor then remembers, and its stores.
 fn judge(l: Layout, m: Monitor, s: Step, memory: &mut [u8]) -> Judged
-    requires { ⌜ length (now memory) ≡ P.memoryBytes ⌝ }
+    requires { ⌜ length (now memory) ≡ memoryBytes ⌝ }
     ensures { λ r. ⌜ (r .answer ≡ E.answer l m s (now (memory .entry)))
         × (r .monitor ≡ next l m s)
         × (now (memory .exit) ≡ E.written l m s (now (memory .entry))) ⌝ }
@@ -194,7 +191,7 @@ fn one_if(resets: bool) -> usize
 
 // All steps of a trace, from the monitor's start.
 fn run(l: Layout, trace: &[u8], memory: &mut [u8], room: &mut [u8]) -> Totals
-    requires { ⌜ (length (now memory) ≡ P.memoryBytes) × (R.answerSize * R.count (now trace) ≤ length (now room)) ⌝ }
+    requires { ⌜ (length (now memory) ≡ memoryBytes) × (R.answerSize * R.count (now trace) ≤ length (now room)) ⌝ }
     ensures { λ r. ⌜ (r ≡ R.totals l (now (trace .entry)) (now (memory .entry)))
         × (now (memory .exit) ≡ R.memoryAfter l (now (trace .entry)) (now (memory .entry)))
         × (now (room .exit) ≡ R.roomAfter l (now (trace .entry)) (now (memory .entry)) (now (room .entry))) ⌝ }
@@ -255,27 +252,6 @@ fn step_fits(step: &[u8], room: usize) -> Answer
     Answer::Done
 }
 
-// Refusals 1 to 6, then those of `rest`; else the layout.
-fn admit(memory: &[u8], layout: &[u8], rest: Answer) -> Checked
-    ensures { λ r. ⌜ L.row r
-        ≡ told (P.callCheck (now (memory .entry)) (now (layout .entry)) rest)
-        (L.values (layoutOf (now (layout .entry)))) ⌝ }
-{
-    if memory.len() != MEMORY {
-        return Checked::Refused(Refusal {
-            number: refusal::MEMORY_SIZE,
-            place: 0,
-        });
-    }
-    match layout::check(layout) {
-        Checked::Good(l) => match rest {
-            Answer::Done => Checked::Good(l),
-            Answer::Refused(r) => Checked::Refused(r),
-        },
-        Checked::Refused(r) => Checked::Refused(r),
-    }
-}
-
 // Judges a trace on lent memory, from the monitor's start, and puts four answer bytes a step into the room.
 // A refused call changes nothing.
 pub fn trace(memory: &mut [u8], layout: &[u8], trace: &[u8], room: &mut [u8]) -> Traced
@@ -283,14 +259,14 @@ pub fn trace(memory: &mut [u8], layout: &[u8], trace: &[u8], room: &mut [u8]) ->
         (now (memory .exit)) (now (room .exit)) r ⌝ }
 {
     let rest = fits(trace, room.len());
-    match admit(memory, layout, rest) {
+    match layout::admit(memory, layout, rest) {
         Checked::Good(l) => Traced::Judged(run(l, trace, memory, room)),
         Checked::Refused(r) => Traced::Refused(r),
     }
 }
 
 fn run_step(l: Layout, step: &[u8], m: Monitor, memory: &mut [u8], room: &mut [u8]) -> Monitor
-    requires { ⌜ (length (now memory) ≡ P.memoryBytes)
+    requires { ⌜ (length (now memory) ≡ memoryBytes)
         × (length (now step) ≡ R.stepSize)
         × (R.answerSize ≤ length (now room)) ⌝ }
     ensures { λ r. ⌜ (r ≡ next l m (R.steps (now (step .entry)) 0))
@@ -317,7 +293,7 @@ pub fn step(
         (now (memory .exit)) (now (room .exit)) r ⌝ }
 {
     let rest = step_fits(step, room.len());
-    match admit(memory, layout, rest) {
+    match layout::admit(memory, layout, rest) {
         Checked::Good(l) => Stepped::Judged(run_step(l, step, monitor, memory, room)),
         Checked::Refused(r) => Stepped::Refused(r),
     }

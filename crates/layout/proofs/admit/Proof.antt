@@ -1,14 +1,14 @@
--- `monitor::admit` meets its contract. Assumes nothing.
+-- `layout::admit` meets its contract. Assumes nothing.
 use borrow.Author.Needs.{needs}
 use mathlib.Core.Path.{subst}
 use borrow.Author.Tests.{ne-eqb}
 use Rattle.layout.specs.Promises.{Checks}
-use Rattle.monitor.proofs.Calls.{admit-good, admit-rest, admit-refused}
-use Rattle.monitor.proofs.admit.Statement.{statement}
-use Rattle.monitor.proofs.admit.Tie as tie
+use Rattle.layout.proofs.Calls.{admit-good, admit-rest, admit-refused}
+use Rattle.layout.proofs.admit.Statement.{statement}
+use Rattle.layout.proofs.admit.Tie as tie
 
 returns : tie.Need-returns
-returns c = simp (ne-eqb _ _ (c .if1 .taken))
+returns c = record { answered = simp (ne-eqb _ _ (c .if1 .taken)) }
 
 check-requires : tie.Need-check-requires
 check-requires c κs = search needs

@@ -1,0 +1,53 @@
+-- The check that comes first in a call on a board's memory: what has passed, and what follows. Assumes nothing.
+use mathlib.Core.Path.{_≡_, refl, ap}
+use mathlib.Core.Bool.{not}
+use mathlib.Core.List.{List}
+use Prim.Native.Nat.{ℕ}
+use lib.Dec.{eqb}
+use lib.ListN.{length}
+use borrow.Author.Tests.{eqb-true, eq-eqb, not-false}
+use Rattle.refusal.specs.declared.Refusal.{Refusal}
+use Rattle.refusal.specs.declared.Answer.{Answer}
+use Rattle.refusal.specs.declared.Answer.the-variants.{Done, Refused}
+use Rattle.refusal.proofs.Order.{done-passed, both-done}
+use Rattle.layout.specs.declared.Layout.{Layout}
+use Rattle.layout.specs.declared.Checked.the-variants as checked
+use Rattle.layout.specs.Layouts.{layoutOf, layoutCheck}
+use Rattle.layout.specs.Calls.{memoryBytes, callCheck}
+use Rattle.layout.specs.Promises.{row, Checks, Admits}
+use Rattle.layout.proofs.Laws.{told-good, told-refused}
+
+pub call-passed : (memory layout : List ℕ) (rest : Answer) → callCheck memory layout rest ≡ Done
+    → (length memory ≡ memoryBytes) × (layoutCheck layout ≡ Done) × (rest ≡ Done)
+call-passed memory layout rest e =
+    let p = done-passed (not (eqb (length memory) memoryBytes)) _ _ e in
+    let q = both-done (layoutCheck layout) rest (p .1) in
+    (eqb-true (length memory) memoryBytes (not-false _ (p .0)), q .0, q .1)
+
+pub call-rest : (memory layout : List ℕ) (rest : Answer) → length memory ≡ memoryBytes → layoutCheck layout ≡ Done
+    → callCheck memory layout rest ≡ rest
+call-rest memory layout rest w e = simp (eq-eqb (length memory) memoryBytes w, e)
+
+-- `admit`, on plain variables
+module _ (memory layout : List ℕ) (rest : Answer) (long : length memory ≡ memoryBytes) where
+  pub admit-good : (l : Layout) → Checks layout (checked.Good l) → rest ≡ Done → Admits memory layout rest (checked.Good l)
+  admit-good l p e =
+      let g = told-good (layoutCheck layout) (layoutOf layout) l (p .answered) in
+      record { answered = simp (eq-eqb (length memory) memoryBytes long, g .0, e) (ap (λ (k : Layout). row (checked.Good k)) (g .1)) }
+
+  pub admit-rest : (l : Layout) (r : Refusal) → Checks layout (checked.Good l) → rest ≡ Refused r → Admits memory layout rest (checked.Refused r)
+  admit-rest l r p e =
+      record { answered = simp (eq-eqb (length memory) memoryBytes long, told-good (layoutCheck layout) (layoutOf layout) l (p .answered) .0, e) }
+
+  pub admit-refused : (r : Refusal) → Checks layout (checked.Refused r) → Admits memory layout rest (checked.Refused r)
+  admit-refused r p =
+      record { answered = simp (eq-eqb (length memory) memoryBytes long, told-refused (layoutCheck layout) (layoutOf layout) r (p .answered)) }
+
+-- what `admit` has answered
+pub admitted-good : (memory layout : List ℕ) (rest : Answer) (l : Layout) → Admits memory layout rest (checked.Good l)
+    → (callCheck memory layout rest ≡ Done) × (l ≡ layoutOf layout)
+admitted-good memory layout rest l p = told-good (callCheck memory layout rest) (layoutOf layout) l (p .answered)
+
+pub admitted-refused : (memory layout : List ℕ) (rest : Answer) (r : Refusal) → Admits memory layout rest (checked.Refused r)
+    → callCheck memory layout rest ≡ Refused r
+admitted-refused memory layout rest r p = told-refused (callCheck memory layout rest) (layoutOf layout) r (p .answered)

@@ -1,5 +1,6 @@
 pub mod Numbers
 pub mod Choice
+pub mod Bytes
 pub mod First
 pub mod Answers
 pub mod Settled

@@ -1,0 +1,112 @@
+-- What attestation reads and what an accepted call leaves, for readers and for the crates above. Assumes nothing.
+use mathlib.Core.Path.{_≡_, refl, sym, _∙_}
+use mathlib.Core.Logic.{_⊎_, inl, inr}
+use mathlib.Core.Bool.{true, false}
+use mathlib.Core.List.{List}
+use Prim.Native.Nat.{ℕ, _+_, _≤_, _<_}
+use native.Mathlib.Omega.{arith}
+use borrow.Author.Tests.{ltb-true, ltb-false}
+use lib.Dec.{ltb}
+use lib.ListN.{length, getD, length-take, length-drop}
+use lib.Seq.{sets, length-sets}
+use Rattle.refusal.specs.declared.Answer.the-variants.{Done}
+use Rattle.refusal.proofs.Tests.{cases, neither, clash}
+use Rattle.layout.specs.declared.Region.{Region}
+use Rattle.layout.specs.declared.Layout.{Layout}
+use Rattle.layout.specs.Regions.{within, size}
+use Rattle.layout.specs.Layouts.{layoutOf, layoutCheck}
+use Rattle.layout.specs.Calls.{memoryBytes}
+use Rattle.layout.proofs.Laws.{ends-within}
+use Rattle.layout.proofs.Calls.{call-passed, call-rest}
+use Rattle.layout.proofs.Placed.{Placed}
+use Rattle.routine.specs.Strings.{greater}
+use Rattle.routine.specs.Routine.{token, reply}
+use Rattle.routine.proofs.Laws.{length-reply, request-passed, request-passes}
+use Rattle.board.specs.Memory.{bytesAt, key, counter, attested, challenge, received, replyAt, replied}
+use Rattle.board.specs.Attestation.{attestCheck, due, accepted, storesTo}
+use Rattle.board.proofs.Stores.{Off, stored-there, stored-off, stored-apart}
+
+-- ---- what is read
+
+pub length-bytes : (a n : ℕ) (memory : List ℕ) → a + n ≤ length memory → length (bytesAt a n memory) ≡ n
+length-bytes a n memory h = simp (length-take, length-drop) (omega arith)
+
+pub due-is : (l : Layout) (memory : List ℕ) → due l memory ≡ reply (key l memory) (challenge l memory) (attested l memory)
+unfolding due
+due-is l memory = refl
+
+pub length-due : (l : Layout) (memory : List ℕ) → length (due l memory) ≡ 32
+unfolding due
+length-due l memory = length-reply _ _ _
+
+module _ (l : Layout) (p : Placed l) (memory : List ℕ) (long : length memory ≡ memoryBytes) where
+  pub length-key : length (key l memory) ≡ 64
+  length-key =
+      let s = p .key in
+      length-bytes (l .kr .lo) (size (l .kr)) memory (omega (arith, p .key-in)) ∙ s
+
+  pub length-challenge : length (challenge l memory) ≡ 32
+  length-challenge = length-bytes (l .mr .lo) 32 memory (omega (arith, p .mail-in))
+
+  pub length-attested : length (attested l memory) ≡ size (l .ar)
+  length-attested = length-bytes (l .ar .lo) (size (l .ar)) memory (omega (arith, p .region-in))
+
+  -- ---- what an accepted call leaves
+
+  pub length-accepted : length (accepted l memory) ≡ length memory
+  unfolding accepted
+  length-accepted = length-sets _ (l .ctr .lo) (challenge l memory) ∙ length-sets memory (replyAt l) (due l memory)
+
+  abbrev first : List ℕ
+  first = sets memory (replyAt l) (due l memory)
+
+  pub accepted-counter : counter l (accepted l memory) ≡ challenge l memory
+  unfolding accepted
+  accepted-counter =
+      stored-there first (l .ctr .lo) (size (l .ctr)) (challenge l memory) (length-challenge ∙ sym (p .counter))
+      (omega (arith, length-sets memory (replyAt l) (due l memory), p .counter, p .counter-in))
+
+  pub accepted-reply : replied l (accepted l memory) ≡ due l memory
+  unfolding accepted
+  accepted-reply =
+      let n = length-challenge in
+      stored-apart first (l .ctr .lo) (challenge l memory) (replyAt l) 32
+      (elim (p .apart) [ inl h ↦ inl (omega arith) | inr h ↦ inr (omega arith) ])
+      ∙ stored-there memory (replyAt l) 32 (due l memory) (length-due l memory) (omega (arith, p .mail-in))
+
+  pub accepted-else : (a : ℕ) → storesTo l a ≡ false → getD (accepted l memory) a 0 ≡ getD memory a 0
+  unfolding accepted
+  accepted-else a e =
+      let r : Region = record { lo = replyAt l; hi = replyAt l + 31 } in
+      let o = neither (within r a) (within (l .ctr) a) e in
+      let n = length-challenge in
+      let d = length-due l memory in
+      let s = p .counter in
+      stored-off first (l .ctr .lo) (challenge l memory) a (elim (off (l .ctr) a (o .1)) [ inl h ↦ inl (omega arith) | inr h ↦ inr (omega arith) ])
+      ∙ stored-off memory (replyAt l) (due l memory) a (elim (off r a (o .0)) [ inl h ↦ inl (omega arith) | inr h ↦ inr (omega arith) ])
+    where
+      off : (r : Region) (k : ℕ) → within r k ≡ false → (k < r .lo) ⊎ (r .hi < k)
+      off r k t =
+          cases (ltb k (r .lo)) (λ b. inl (ltb-true k (r .lo) b))
+          (λ b. cases (ltb (r .hi) k) (λ c. inr (ltb-true (r .hi) k c))
+          (λ c. clash (within r k) (ends-within r k (ltb-false k (r .lo) b) (ltb-false (r .hi) k c)) t))
+
+-- ---- which calls are accepted
+
+-- the memory's length, the layout, and steps 1 and 2
+pub record Allowed (memory layout : List ℕ) : Type 0 where
+  pub long : length memory ≡ memoryBytes
+  pub laid : layoutCheck layout ≡ Done
+  pub fresh : greater (challenge (layoutOf layout) memory) (counter (layoutOf layout) memory) ≡ true
+  pub genuine : token (key (layoutOf layout) memory) (challenge (layoutOf layout) memory) ≡ received (layoutOf layout) memory
+
+pub done-allowed : (memory layout : List ℕ) → attestCheck memory layout ≡ Done → Allowed memory layout
+unfolding attestCheck
+done-allowed memory layout e =
+    let p = call-passed memory layout _ e in
+    let q = request-passed _ _ _ _ (p .2) in
+    record { long = p .0; laid = p .1; fresh = q .0; genuine = q .1 }
+
+pub allowed-done : (memory layout : List ℕ) → Allowed memory layout → attestCheck memory layout ≡ Done
+unfolding attestCheck
+allowed-done memory layout a = call-rest memory layout _ (a .long) (a .laid) ∙ request-passes _ _ _ _ (a .fresh) (a .genuine)

@@ -1,0 +1,4 @@
+pub mod Memory
+pub mod Attestation
+pub mod Promises
+pub mod Settled

@@ -1,0 +1,1 @@
+// Attestation on a board's memory.

@@ -1,0 +1,114 @@
+-- The counter's history: what can happen to a board, and that no old request is ever answered again.
+-- Definitions and claims; the proofs are in proofs/History.antt. Assumes nothing.
+use mathlib.Core.Path.{_≡_}
+use mathlib.Core.Logic.{_↔_}
+use mathlib.Core.Bool.{Bool, true, false, not, _&&_}
+use mathlib.Core.List.{List}
+use Prim.Native.Nat.{ℕ, suc, _≤_, _<_}
+use lib.ListN.{length}
+use Rattle.refusal.specs.Bytes.{Bytes}
+use Rattle.refusal.specs.declared.Answer.{Answer}
+use Rattle.refusal.specs.declared.Answer.the-variants.{Done}
+use Rattle.layout.specs.declared.Layout.{Layout}
+use Rattle.layout.specs.Layouts.{layoutOf}
+use Rattle.layout.specs.Regions.{within}
+use Rattle.rules.specs.declared.Step.{Step}
+use Rattle.rules.specs.declared.Monitor.{Monitor}
+use Rattle.rules.specs.Rules.{cpuWrites, resets}
+use Rattle.monitor.specs.declared.Traced.{Traced}
+use Rattle.monitor.specs.Runs.{count, steps, begin, before}
+use Rattle.monitor.specs.Promises.{Traces}
+use Rattle.routine.specs.Strings.{greater, number}
+use Rattle.board.specs.Memory.{bytesOf, key, counter, challenge}
+use Rattle.board.specs.Promises.{Attests}
+
+-- ---- what can happen to a board
+
+pub data Event : Type 0 where
+  -- a call of `attest`, and its answer
+  attest : Answer → Event
+  -- a call of `trace` with these steps, and its answer
+  trace : List ℕ → Traced → Event
+  -- anything else: power loss, the loading of forms
+  change : Event
+
+-- CR, KR and CTR stay; every other byte may change
+pub record Keeps (l : Layout) (x y : List ℕ) : Type 0 where
+  pub long : length y ≡ length x
+  pub code : bytesOf (l .cr) y ≡ bytesOf (l .cr) x
+  pub key : key l y ≡ key l x
+  pub counter : counter l y ≡ counter l x
+
+-- the attestation code stores into CTR at this step, and the step does not reset
+abbrev pub storesCounter : Layout → Monitor → Step → Bool
+storesCounter l m s = not (resets l m s) && within (l .cr) (s .pc) && cpuWrites (l .ctr) s
+
+-- it does so at no step of a trace
+abbrev pub CounterLeft : Layout → List ℕ → List ℕ → Type 0
+CounterLeft l b memory =
+    (i : ℕ) → i < count b → storesCounter l (before l (steps b) (begin memory) i .monitor) (steps b i) ≡ false
+
+-- an event turns the memory x into y
+abbrev pub Happens : List ℕ → Event → List ℕ → List ℕ → Type 0
+Happens layout (attest r) x y = Attests x layout y r
+Happens layout (trace b r) x y =
+    ((room : List ℕ) × (room′ : List ℕ) × Traces x layout b room y room′ r) × CounterLeft (layoutOf layout) b x
+Happens layout change x y = Keeps (layoutOf layout) x y
+
+-- a trace in which the attestation code leaves CTR alone keeps CR, KR and CTR
+abbrev pub TraceKeeps : Type 0
+TraceKeeps =
+    (memory layout b room memory′ room′ : List ℕ) (r : Traced) → Traces memory layout b room memory′ room′ r
+    → CounterLeft (layoutOf layout) b memory → Keeps (layoutOf layout) memory memory′
+
+-- n events one after another: memories i is the memory before event i
+pub record History (layout : List ℕ) (events : ℕ → Event) (memories : ℕ → List ℕ) (n : ℕ) : Type 0 where
+  pub layoutBytes : Bytes layout
+  pub happens : (i : ℕ) → i < n → Happens layout (events i) (memories i) (memories (suc i))
+
+-- ---- over every history of a board
+
+module _ (layout : List ℕ) (events : ℕ → Event) (memories : ℕ → List ℕ) where
+  -- event i is an accepted request, for the challenge c
+  pub record Accepted (i : ℕ) (c : List ℕ) : Type 0 where
+    pub event : events i ≡ attest Done
+    pub request : c ≡ challenge (layoutOf layout) (memories i)
+
+  -- the counter before event i
+  abbrev pub counterAt : ℕ → List ℕ
+  counterAt i = counter (layoutOf layout) (memories i)
+
+-- a challenge that is not greater than the counter is never again
+abbrev pub OldStaysOld : Type 0
+OldStaysOld =
+    (layout : List ℕ) (events : ℕ → Event) (memories : ℕ → List ℕ) (n : ℕ) → History layout events memories n
+    → (i j : ℕ) → i ≤ j → j ≤ n → (c : List ℕ)
+    → greater c (counterAt layout events memories i) ≡ false → greater c (counterAt layout events memories j) ≡ false
+
+-- accepted challenges strictly increase
+abbrev pub Increase : Type 0
+Increase =
+    (layout : List ℕ) (events : ℕ → Event) (memories : ℕ → List ℕ) (n : ℕ) → History layout events memories n
+    → (i j : ℕ) (c d : List ℕ) → i < j → j < n
+    → Accepted layout events memories i c → Accepted layout events memories j d → greater d c ≡ true
+
+-- as numbers too
+abbrev pub NumbersIncrease : Type 0
+NumbersIncrease =
+    (layout : List ℕ) (events : ℕ → Event) (memories : ℕ → List ℕ) (n : ℕ) → History layout events memories n
+    → (i j : ℕ) (c d : List ℕ) → i < j → j < n → Bytes (memories i) → Bytes (memories j)
+    → Accepted layout events memories i c → Accepted layout events memories j d → number c < number d
+
+-- no challenge is accepted twice
+abbrev pub NeverTwice : Type 0
+NeverTwice =
+    (layout : List ℕ) (events : ℕ → Event) (memories : ℕ → List ℕ) (n : ℕ) → History layout events memories n
+    → (i j : ℕ) (c : List ℕ) → i < n → j < n
+    → Accepted layout events memories i c → Accepted layout events memories j c → i ≡ j
+
+-- of two accepted checks the later has the larger challenge: sorting by challenge is sorting by time
+abbrev pub LaterIsLarger : Type 0
+LaterIsLarger =
+    (layout : List ℕ) (events : ℕ → Event) (memories : ℕ → List ℕ) (n : ℕ) → History layout events memories n
+    → (i j : ℕ) (c d : List ℕ) → i < n → j < n
+    → Accepted layout events memories i c → Accepted layout events memories j d → (i < j) ↔ (greater d c ≡ true)

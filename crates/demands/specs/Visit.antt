@@ -1,0 +1,96 @@
+-- A lawful visit to the attestation code passes the monitor, and attestation is such a visit.
+-- Definitions and claims; the proofs are in proofs/Visit.antt. Assumes nothing.
+use mathlib.Core.Path.{_≡_}
+use mathlib.Core.Bool.{true, false, _||_}
+use mathlib.Core.List.{List}
+use Prim.Native.Nat.{ℕ, suc, _+_, _-_, _≤_, _<_}
+use lib.Dec.{eqb, ltb}
+use lib.ListN.{length, getD}
+use Rattle.refusal.specs.Bytes.{Bytes}
+use Rattle.refusal.specs.Choice.{pick}
+use Rattle.refusal.specs.declared.Answer.the-variants.{Done}
+use Rattle.layout.specs.declared.Layout.{Layout}
+use Rattle.layout.specs.Layouts.{layoutOf}
+use Rattle.layout.specs.Regions.{within}
+use Rattle.rules.specs.declared.Step.{Step}
+use Rattle.monitor.specs.Runs.{State, before}
+use Rattle.board.specs.Memory.{challenge, replyAt}
+use Rattle.board.specs.Attestation.{due}
+use Rattle.board.specs.Promises.{Attests}
+use Rattle.demands.specs.Traces.{causeAt}
+
+-- ---- a lawful visit
+
+-- a step in the attestation code that breaks no rule: no interrupt, no DMA, and it writes only XS, MR and CTR
+pub record Inside (l : Layout) (s : Step) : Type 0 where
+  pub pc : within (l .cr) (s .pc) ≡ true
+  pub calm : s .interrupt ≡ false
+  pub idle : s .active ≡ false
+  pub writes : s .writes ≡ true → (within (l .xs) (s .cpu) || within (l .mr) (s .cpu) || within (l .ctr) (s .cpu)) ≡ true
+
+-- n steps that enter CR at its lowest address and end at its highest
+pub record Visit (l : Layout) (t : ℕ → Step) (n : ℕ) : Type 0 where
+  pub some : 0 < n
+  pub enters : t 0 .pc ≡ l .cr .lo
+  pub each : (i : ℕ) → i < n → Inside l (t i)
+  pub ends : t (n - 1) .pc ≡ l .cr .hi
+
+-- the monitor is not held and the last PC was outside CR
+pub record Free (l : Layout) (x : State) : Type 0 where
+  pub unheld : x .monitor .held ≡ false
+  pub outside : within (l .cr) (x .monitor .last) ≡ false
+
+-- no step of a visit resets
+abbrev pub VisitPasses : Type 0
+VisitPasses =
+    (l : Layout) (t : ℕ → Step) (x : State) (n : ℕ) → Free l x → Visit l t n → (i : ℕ) → i < n → causeAt l t x i ≡ 0
+
+-- nor does a step outside CR that follows it, accesses nothing and has no DMA
+abbrev pub LeavesFreely : Type 0
+LeavesFreely =
+    (l : Layout) (t : ℕ → Step) (x : State) (n : ℕ) → Free l x → Visit l t n
+    → within (l .cr) (t n .pc) ≡ false → t n .reads ≡ false → t n .writes ≡ false → t n .active ≡ false
+    → causeAt l t x n ≡ 0
+
+-- ---- attestation as a visit
+
+-- the 64 stores of an accepted call, in order: the reply's bytes, then the challenge's into CTR
+abbrev pub storeAt : Layout → ℕ → ℕ
+storeAt l i = pick (ltb i 32) (replyAt l + i) (l .ctr .lo + (i - 32))
+
+abbrev pub storeByte : Layout → List ℕ → ℕ → ℕ
+storeByte l memory i = pick (ltb i 32) (getD (due l memory) i 0) (getD (challenge l memory) (i - 32) 0)
+
+-- a visit of 64 steps that makes these stores, one a step
+pub record Plays (l : Layout) (memory : List ℕ) (t : ℕ → Step) : Type 0 where
+  pub visit : Visit l t 64
+  pub writes : (i : ℕ) → i < 64 → t i .writes ≡ true
+  pub address : (i : ℕ) → i < 64 → t i .cpu ≡ storeAt l i
+  pub byte : (i : ℕ) → i < 64 → t i .cpudata ≡ storeByte l memory i
+
+-- it leaves exactly the memory that `attest` leaves
+abbrev pub VisitAttests : Type 0
+VisitAttests =
+    (layout memory′ : List ℕ) (t : ℕ → Step) (x : State) → Bytes layout → Free (layoutOf layout) x
+    → Attests (x .memory) layout memory′ Done → Plays (layoutOf layout) (x .memory) t
+    → before (layoutOf layout) t x 64 .memory ≡ memory′
+
+-- there is such a visit for every accepted call: all its steps but the last at CR's lowest address, the last at its highest
+abbrev pub played : Layout → List ℕ → ℕ → Step
+played l memory i = record {
+  pc = pick (eqb i 63) (l .cr .hi) (l .cr .lo);
+  cpu = storeAt l i;
+  dma = 0;
+  reads = false;
+  writes = true;
+  interrupt = false;
+  active = false;
+  stores = false;
+  cpudata = storeByte l memory i;
+  dmadata = 0;
+}
+
+abbrev pub CanBePlayed : Type 0
+CanBePlayed =
+    (memory layout memory′ : List ℕ) → Bytes layout → Attests memory layout memory′ Done
+    → Plays (layoutOf layout) memory (played (layoutOf layout) memory)

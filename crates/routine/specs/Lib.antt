@@ -1,0 +1,4 @@
+pub mod Strings
+pub mod Routine
+pub mod Promises
+pub mod Settled

@@ -1,0 +1,36 @@
+-- What the functions on plain slices promise, for all inputs. HMAC takes a key and a message of 0 to 65,536 bytes each, so a longer
+-- string is refused with 12; on a board and at the station none is. Assumes nothing.
+use mathlib.Core.Path.{_≡_}
+use mathlib.Core.Bool.{Bool, _||_}
+use mathlib.Core.List.{List}
+use Prim.Native.Nat.{ℕ}
+use Rattle.refusal.specs.Choice.{pick}
+use Rattle.refusal.specs.Answers.{row, refusedAt}
+use Rattle.refusal.specs.Numbers.{lengthOrTotal}
+use Rattle.refusal.specs.declared.Answer.{Answer}
+use Rattle.sha256.specs.declared.Digest.{Digest}
+use Rattle.sha256.specs.Promises.{Gives}
+use Rattle.hmac.specs.Promises.{long}
+use Rattle.routine.specs.Strings.{greater, same}
+use Rattle.routine.specs.Routine.{token, reply, requestCheck}
+
+-- `greater` and `equal`
+abbrev pub Compares : List ℕ → List ℕ → Bool → Type 0
+Compares a b r = r ≡ greater a b
+
+abbrev pub Equals : List ℕ → List ℕ → Bool → Type 0
+Equals a b r = r ≡ same a b
+
+-- `token`
+abbrev pub Tokens : List ℕ → List ℕ → Digest → Type 0
+Tokens k challenge r = Gives (long k || long challenge) (token k challenge) r
+
+-- `reply`
+abbrev pub Replies : List ℕ → List ℕ → List ℕ → Digest → Type 0
+Replies k challenge region r = Gives (long k || long challenge || long region) (reply k challenge region) r
+
+-- `authorise`: steps 1 and 2
+pub record Authorises (k challenge received counter : List ℕ) (r : Answer) : Type 0 where
+  pub answered :
+      row r
+      ≡ row (pick (long k || long challenge) (refusedAt lengthOrTotal 0) (requestCheck k challenge received counter))

@@ -1,0 +1,29 @@
+-- The attestation routine with verifier authentication, over a key K, a challenge and a region. Assumes nothing.
+use mathlib.Core.Bool.{not}
+use mathlib.Core.List.{List}
+use Prim.Native.Nat.{ℕ}
+use Rattle.refusal.specs.Choice.{pick}
+use Rattle.refusal.specs.Answers.{refusedAt}
+use Rattle.refusal.specs.Numbers.{challengeNotGreater, tokenDiffers}
+use Rattle.refusal.specs.declared.Answer.{Answer}
+use Rattle.refusal.specs.declared.Answer.the-variants.{Done}
+use Rattle.hmac.specs.Hmac.{hmac}
+use Rattle.routine.specs.Strings.{greater, same}
+
+-- step 2: T = HMAC(K, challenge)
+unfoldable pub token : List ℕ → List ℕ → List ℕ
+token k challenge = hmac k challenge
+
+-- step 3: one-time key = HMAC(K, T), made from the token and never from the challenge itself
+unfoldable pub oneTimeKey : List ℕ → List ℕ → List ℕ
+oneTimeKey k challenge = hmac k (token k challenge)
+
+-- step 3: reply = HMAC(one-time key, region)
+unfoldable pub reply : List ℕ → List ℕ → List ℕ → List ℕ
+reply k challenge region = hmac (oneTimeKey k challenge) region
+
+-- steps 1 and 2: the challenge must be greater than the counter, and T must equal the token that came with it
+unfoldable pub requestCheck : List ℕ → List ℕ → List ℕ → List ℕ → Answer
+requestCheck k challenge received counter =
+    pick (not (greater challenge counter)) (refusedAt challengeNotGreater 0)
+    (pick (not (same (token k challenge) received)) (refusedAt tokenDiffers 0) Done)

@@ -1,0 +1,57 @@
+-- What the station's calls promise, for all inputs. Assumes nothing.
+use mathlib.Core.Path.{_≡_}
+use mathlib.Core.Bool.{Bool, not, _||_}
+use mathlib.Core.List.{List, [], _∷_}
+use Prim.Native.Nat.{ℕ}
+use lib.Dec.{eqb, ltb}
+use lib.ListN.{length}
+use Rattle.refusal.specs.Choice.{pick}
+use Rattle.refusal.specs.Answers as A
+use Rattle.refusal.specs.Answers.{refusedAt, told}
+use Rattle.refusal.specs.Numbers.{lengthOrTotal}
+use Rattle.refusal.specs.declared.Answer.{Answer}
+use Rattle.refusal.specs.declared.Answer.the-variants as call
+use Rattle.sha256.specs.declared.Digest.{Digest}
+use Rattle.sha256.specs.Promises.{Gives}
+use Rattle.routine.specs.Strings.{same}
+use Rattle.routine.specs.Routine.{token, reply}
+use Rattle.station.specs.declared.Verdict.{Verdict}
+use Rattle.station.specs.declared.Verdict.the-variants.{Yes, No, Refused}
+
+-- ---- refusal 12
+
+-- b does not have n bytes
+abbrev pub notOf : ℕ → List ℕ → Bool
+notOf n b = not (eqb (length b) n)
+
+-- station keys are 64 bytes, challenges 32
+abbrev pub tokenUnfit : List ℕ → List ℕ → Bool
+tokenUnfit k challenge = notOf 64 k || notOf 32 challenge
+
+-- replies are 32 bytes, expected regions 1 to 65,536
+abbrev pub checkUnfit : List ℕ → List ℕ → List ℕ → List ℕ → Bool
+checkUnfit k challenge given region =
+    tokenUnfit k challenge || notOf 32 given || eqb (length region) 0 || ltb 65536 (length region)
+
+-- ---- answers
+
+-- the row of a verdict: 0, then 1 0 for yes and 0 1 for no; or the refusal's number and place
+abbrev pub row : Verdict → List ℕ
+row Yes = 0 ∷ 1 ∷ 0 ∷ []
+row No = 0 ∷ 0 ∷ 1 ∷ []
+row (Refused r) = A.row (call.Refused r)
+
+-- ---- the calls
+
+-- `token`
+abbrev pub MakesToken : List ℕ → List ℕ → Digest → Type 0
+MakesToken k challenge r = Gives (tokenUnfit k challenge) (token k challenge) r
+
+-- `check`: yes exactly if the given reply is step 3's for the key, the challenge and the expected region
+abbrev pub checkCheck : List ℕ → List ℕ → List ℕ → List ℕ → Answer
+checkCheck k challenge given region = pick (checkUnfit k challenge given region) (refusedAt lengthOrTotal 0) call.Done
+
+pub record ChecksReply (k challenge given region : List ℕ) (r : Verdict) : Type 0 where
+  pub answered :
+      row r
+      ≡ told (checkCheck k challenge given region) (pick (same given (reply k challenge region)) (1 ∷ 0 ∷ []) (0 ∷ 1 ∷ []))

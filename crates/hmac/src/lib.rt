@@ -10,7 +10,7 @@ ghost use Rattle.hmac.specs.Hmac as S;
 ghost use Rattle.hmac.specs.Promises as P;
 
 // The most bytes of a key, and of a message.
-const MOST: usize = 65_536;
+pub const MOST: usize = 65_536;
 
 const IPAD: u8 = 0x36;
 

@@ -1,2 +1,4 @@
 pub mod Order
 pub mod Laws
+pub mod Strings
+pub mod Requests

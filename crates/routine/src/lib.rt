@@ -1,1 +1,75 @@
 // The attestation routine on plain slices: the comparisons, the token, the reply, and steps 1 and 2.
+use refusal::Answer;
+use sha256::Digest;
+ghost use Rattle.routine.specs.Promises as P;
+
+// Whether a is greater than b, the first byte heaviest. Neither is secret, so this may leave early.
+pub fn greater(a: &[u8], b: &[u8]) -> bool
+    ensures { λ r. ⌜ P.Compares (now (a .entry)) (now (b .entry)) r ⌝ }
+{
+    let mut i = 0;
+    while i < a.len() {
+        if b.len() <= i {
+            return true;
+        }
+        let x = a[i];
+        let y = b[i];
+        if x != y {
+            return y < x;
+        }
+        i += 1;
+    }
+    false
+}
+
+// Whether a and b are equal. Goes over all bytes, whatever it finds.
+pub fn equal(a: &[u8], b: &[u8]) -> bool
+    ensures { λ r. ⌜ P.Equals (now (a .entry)) (now (b .entry)) r ⌝ }
+{
+    if a.len() != b.len() {
+        return false;
+    }
+    let mut differing = 0u8;
+    let mut i = 0;
+    while i < a.len() {
+        differing = differing | (a[i] ^ b[i]);
+        i += 1;
+    }
+    differing == 0
+}
+
+// T for a key and a challenge.
+pub fn token(key: &[u8], challenge: &[u8]) -> Digest
+    ensures { λ r. ⌜ P.Tokens (now (key .entry)) (now (challenge .entry)) r ⌝ }
+{
+    hmac::mac(key, challenge)
+}
+
+// The reply for a key, a challenge and a region. The region is hashed where it stands.
+pub fn reply(key: &[u8], challenge: &[u8], region: &[u8]) -> Digest
+    ensures { λ r. ⌜ P.Replies (now (key .entry)) (now (challenge .entry)) (now (region .entry)) r ⌝ }
+{
+    if (key.len() > hmac::MOST) | (challenge.len() > hmac::MOST) | (region.len() > hmac::MOST) {
+        return Digest::refused();
+    }
+    let t = token(key, challenge).bytes;
+    let one_time_key = hmac::mac(key, &t).bytes;
+    hmac::mac(&one_time_key, region)
+}
+
+// Steps 1 and 2: is the challenge greater than the counter, and is T the token that came with it?
+pub fn authorise(key: &[u8], challenge: &[u8], received: &[u8], counter: &[u8]) -> Answer
+    ensures { λ r. ⌜ P.Authorises (now (key .entry)) (now (challenge .entry)) (now (received .entry)) (now (counter .entry)) r ⌝ }
+{
+    if (key.len() > hmac::MOST) | (challenge.len() > hmac::MOST) {
+        return refusal::refused(refusal::LENGTH_OR_TOTAL);
+    }
+    if !greater(challenge, counter) {
+        return refusal::refused(refusal::CHALLENGE_NOT_GREATER);
+    }
+    let t = token(key, challenge).bytes;
+    if !equal(&t, received) {
+        return refusal::refused(refusal::TOKEN_DIFFERS);
+    }
+    Answer::Done
+}

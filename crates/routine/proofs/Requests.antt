@@ -1,0 +1,73 @@
+-- The token, the reply and steps 1 and 2, from the calls that make them, on plain variables. Assumes nothing.
+use mathlib.Core.Path.{_≡_, refl, subst, _∙_}
+use mathlib.Core.Bool.{Bool, true, false, _||_}
+use mathlib.Core.List.{List}
+use Prim.Native.Nat.{ℕ}
+use native.Mathlib.Omega.{arith}
+use borrow.Author.Tests.{le-ltb}
+use lib.ListN.{length}
+use Rattle.refusal.specs.Answers.{row, refusedWith}
+use Rattle.refusal.specs.Numbers.{challengeNotGreater, tokenDiffers, lengthOrTotal}
+use Rattle.refusal.specs.declared.Answer.{Answer}
+use Rattle.refusal.specs.declared.Answer.the-variants.{Done}
+use Rattle.refusal.proofs.Tests.{neither}
+use Rattle.sha256.specs.declared.Digest.{Digest}
+use Rattle.sha256.specs.Promises.{Gives}
+use Rattle.sha256.proofs.Laws.{gives-bytes}
+use Rattle.sha256.proofs.Answers.{gives-given}
+use Rattle.hmac.specs.Hmac.{hmac}
+use Rattle.hmac.specs.Promises.{most, long, Macs}
+use Rattle.routine.specs.Strings.{greater, same}
+use Rattle.routine.specs.Routine.{token, oneTimeKey, reply, requestCheck}
+use Rattle.routine.specs.Promises.{Tokens, Replies, Authorises}
+use Rattle.routine.proofs.Laws.{length-hmac}
+
+pub token-made : (k challenge : List ℕ) (r : Digest) → Macs k challenge r → Tokens k challenge r
+unfolding token
+token-made k challenge r p = p
+
+-- what is made is short
+hmac-short : (k m : List ℕ) → long (hmac k m) ≡ false
+hmac-short k m = le-ltb most (length (hmac k m)) (omega (arith, length-hmac k m))
+
+mac-bytes : (k m : List ℕ) (r : Digest) → long k ≡ false → long m ≡ false → Macs k m r → r .bytes ≡ hmac k m
+mac-bytes k m r p q e = gives-bytes e (simp (p, q))
+
+pub reply-made : (k challenge region : List ℕ) (t o r : Digest) → (long k || long challenge || long region) ≡ false
+    → Tokens k challenge t → Macs k (t .bytes) o → Macs (o .bytes) region r → Replies k challenge region r
+unfolding reply oneTimeKey token
+reply-made k challenge region t o r h pt po pr =
+    let a = neither (long k || long challenge) (long region) h in
+    let b = neither (long k) (long challenge) (a .0) in
+    let et : t .bytes ≡ hmac k challenge = mac-bytes k challenge t (b .0) (b .1) pt in
+    let eo : o .bytes ≡ hmac k (hmac k challenge) =
+        mac-bytes k (hmac k challenge) o (b .0) (hmac-short k challenge) (subst (λ (m : List ℕ). Macs k m o) et po) in
+    let er : Macs (hmac k (hmac k challenge)) region r = subst (λ (m : List ℕ). Macs m region r) eo pr in
+    let s : (long (hmac k (hmac k challenge)) || long region) ≡ false = simp (hmac-short k (hmac k challenge), a .1) in
+    gives-given h refl (subst (λ (x : Bool). Gives x (hmac (hmac k (hmac k challenge)) region) r) s er)
+
+-- ---- steps 1 and 2
+
+module _ (k challenge received counter : List ℕ) where
+  pub refuses-length : (r : Answer) → (long k || long challenge) ≡ true → row r ≡ refusedWith lengthOrTotal
+      → Authorises k challenge received counter r
+  refuses-length r h e = record { answered = e ∙ simp h }
+
+  module _ (h : (long k || long challenge) ≡ false) where
+    pub refuses-old : (r : Answer) → greater challenge counter ≡ false → row r ≡ refusedWith challengeNotGreater
+        → Authorises k challenge received counter r
+    unfolding requestCheck
+    refuses-old r g e = record { answered = e ∙ simp (h, g) }
+
+    module _ (g : greater challenge counter ≡ true) (t : Digest) (p : Tokens k challenge t) where
+      made : t .bytes ≡ token k challenge
+      made = gives-bytes p h
+
+      pub refuses-token : (r : Answer) → same (t .bytes) received ≡ false → row r ≡ refusedWith tokenDiffers
+          → Authorises k challenge received counter r
+      unfolding requestCheck
+      refuses-token r s e = record { answered = e ∙ simp (h, g, rw made at s) }
+
+      pub authorises : same (t .bytes) received ≡ true → Authorises k challenge received counter Done
+      unfolding requestCheck
+      authorises s = record { answered = simp (h, g, rw made at s) }

@@ -1,0 +1,43 @@
+-- `routine::reply` meets its contract. Assumes nothing.
+use Rattle.sha256.proofs.Answers.{gives-refused}
+use Rattle.routine.proofs.Requests.{reply-made}
+use borrow.Author.Needs.{needs}
+use Rattle.routine.proofs.reply.Statement.{statement}
+use Rattle.routine.proofs.reply.Tie as tie
+
+refused-requires : tie.Need-refused-requires
+refused-requires c κs = search needs
+
+returns : tie.Need-returns
+returns c = gives-refused (c .before .if1 .taken) (c .refused .ensures)
+
+token-requires : tie.Need-token-requires
+token-requires c κs = search needs
+
+slice-aggregate-mac : tie.Need-slice-aggregate-mac
+slice-aggregate-mac c = search needs
+
+mac-requires : tie.Need-mac-requires
+mac-requires c κs = search needs
+
+slice-aggregate-mac-2 : tie.Need-slice-aggregate-mac-2
+slice-aggregate-mac-2 c = search needs
+
+mac-requires-2 : tie.Need-mac-requires-2
+mac-requires-2 c κs = search needs
+
+returns-2 : tie.Need-returns-2
+returns-2 c = reply-made _ _ _ (c .before .before .before .before .before .before .token .result) (c .before .before .before .mac .result) _ (c .before .before .before .before .before .before .before .if1 .left) (c .before .before .before .before .before .before .token .ensures) (c .before .before .before .mac .ensures) (c .mac2 .ensures)
+
+pub reply-spec : {M : Type 1} → statement M
+reply-spec =
+    tie.close
+    (tie.spec
+    refused-requires
+    returns
+    token-requires
+    slice-aggregate-mac
+    mac-requires
+    slice-aggregate-mac-2
+    mac-requires-2
+    returns-2)

@@ -1,5 +1,5 @@
 -- The laws of the routine, for readers and for the crates above. Assumes nothing.
-use mathlib.Core.Path.{_≡_, refl, sym, _∙_}
+use mathlib.Core.Path.{_≡_, refl, sym, ap}
 use mathlib.Core.Bool.{Bool, true, false, not}
 use mathlib.Core.List.{List}
 use Prim.Native.Nat.{ℕ}
@@ -10,7 +10,7 @@ use Rattle.refusal.proofs.Order.{done-passed}
 use Rattle.sha256.proofs.Laws.{length-sha256}
 use Rattle.hmac.specs.Hmac.{hmac}
 use Rattle.routine.specs.Strings.{greater, same}
-use Rattle.routine.specs.Routine.{token, oneTimeKey, reply, requestCheck}
+use Rattle.routine.specs.Routine.{token, oneTimeKey, replyTo, reply, requestCheck}
 use Rattle.routine.proofs.Order.{equal-same, same-equal}
 
 -- ---- in HMACs
@@ -20,7 +20,7 @@ unfolding token
 token-is k challenge = refl
 
 pub reply-is : (k challenge region : List ℕ) → reply k challenge region ≡ hmac (hmac k (hmac k challenge)) region
-unfolding reply oneTimeKey token
+unfolding reply replyTo oneTimeKey token
 reply-is k challenge region = refl
 
 pub length-hmac : (k m : List ℕ) → length (hmac k m) ≡ 32
@@ -28,8 +28,13 @@ unfolding hmac
 length-hmac k m = length-sha256 _
 
 pub length-reply : (k challenge region : List ℕ) → length (reply k challenge region) ≡ 32
-unfolding reply
+unfolding reply replyTo
 length-reply k challenge region = length-hmac _ region
+
+-- the reply to a T that equals the challenge's
+pub reply-to-is : (k challenge t region : List ℕ) → token k challenge ≡ t → replyTo k t region ≡ reply k challenge region
+unfolding reply
+reply-to-is k challenge t region e = ap (λ (x : List ℕ). replyTo k x region) (sym e)
 
 -- ---- steps 1 and 2
 

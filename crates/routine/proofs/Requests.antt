@@ -1,7 +1,7 @@
 -- The token, the reply and steps 1 and 2, from the calls that make them, on plain variables. Assumes nothing.
 use mathlib.Core.Path.{_≡_, refl, subst, _∙_}
 use mathlib.Core.Bool.{Bool, true, false, _||_}
-use mathlib.Core.List.{List}
+use mathlib.Core.List.{List, []}
 use Prim.Native.Nat.{ℕ}
 use native.Mathlib.Omega.{arith}
 use borrow.Author.Tests.{le-ltb}
@@ -14,12 +14,12 @@ use Rattle.refusal.proofs.Tests.{neither}
 use Rattle.sha256.specs.declared.Digest.{Digest}
 use Rattle.sha256.specs.Promises.{Gives}
 use Rattle.sha256.proofs.Laws.{gives-bytes}
-use Rattle.sha256.proofs.Answers.{gives-given}
+use Rattle.sha256.proofs.Answers.{gives-given, gives-refused}
 use Rattle.hmac.specs.Hmac.{hmac}
 use Rattle.hmac.specs.Promises.{most, long, Macs}
 use Rattle.routine.specs.Strings.{greater, same}
-use Rattle.routine.specs.Routine.{token, oneTimeKey, reply, requestCheck}
-use Rattle.routine.specs.Promises.{Tokens, Replies, Authorises}
+use Rattle.routine.specs.Routine.{token, oneTimeKey, replyTo, reply, requestCheck}
+use Rattle.routine.specs.Promises.{Tokens, RepliesTo, Replies, Authorises}
 use Rattle.routine.proofs.Laws.{length-hmac}
 
 pub token-made : (k challenge : List ℕ) (r : Digest) → Macs k challenge r → Tokens k challenge r
@@ -33,18 +33,31 @@ hmac-short k m = le-ltb most (length (hmac k m)) (omega (arith, length-hmac k m)
 mac-bytes : (k m : List ℕ) (r : Digest) → long k ≡ false → long m ≡ false → Macs k m r → r .bytes ≡ hmac k m
 mac-bytes k m r p q e = gives-bytes e (simp (p, q))
 
-pub reply-made : (k challenge region : List ℕ) (t o r : Digest) → (long k || long challenge || long region) ≡ false
-    → Tokens k challenge t → Macs k (t .bytes) o → Macs (o .bytes) region r → Replies k challenge region r
-unfolding reply oneTimeKey token
-reply-made k challenge region t o r h pt po pr =
-    let a = neither (long k || long challenge) (long region) h in
-    let b = neither (long k) (long challenge) (a .0) in
-    let et : t .bytes ≡ hmac k challenge = mac-bytes k challenge t (b .0) (b .1) pt in
-    let eo : o .bytes ≡ hmac k (hmac k challenge) =
-        mac-bytes k (hmac k challenge) o (b .0) (hmac-short k challenge) (subst (λ (m : List ℕ). Macs k m o) et po) in
-    let er : Macs (hmac k (hmac k challenge)) region r = subst (λ (m : List ℕ). Macs m region r) eo pr in
-    let s : (long (hmac k (hmac k challenge)) || long region) ≡ false = simp (hmac-short k (hmac k challenge), a .1) in
-    gives-given h refl (subst (λ (x : Bool). Gives x (hmac (hmac k (hmac k challenge)) region) r) s er)
+pub reply-to-made : (k t region : List ℕ) (o r : Digest) → (long k || long t || long region) ≡ false
+    → Macs k t o → Macs (o .bytes) region r → RepliesTo k t region r
+unfolding replyTo oneTimeKey
+reply-to-made k t region o r h po pr =
+    let a = neither (long k || long t) (long region) h in
+    let b = neither (long k) (long t) (a .0) in
+    let eo : o .bytes ≡ hmac k t = mac-bytes k t o (b .0) (b .1) po in
+    let er : Macs (hmac k t) region r = subst (λ (m : List ℕ). Macs m region r) eo pr in
+    let s : (long (hmac k t) || long region) ≡ false = simp (hmac-short k t, a .1) in
+    gives-given h refl (subst (λ (x : Bool). Gives x (hmac (hmac k t) region) r) s er)
+
+module _ (k challenge region : List ℕ) where
+  pub reply-refused : (r : Digest) → (long k || long challenge) ≡ true → Gives true [] r → Replies k challenge region r
+  reply-refused r h p = gives-refused (simp h) p
+
+  pub reply-made : (t r : Digest) → (long k || long challenge) ≡ false → Tokens k challenge t → RepliesTo k (t .bytes) region r
+      → Replies k challenge region r
+  unfolding reply token
+  reply-made t r h pt pr =
+      let a = neither (long k) (long challenge) h in
+      let et : t .bytes ≡ hmac k challenge = mac-bytes k challenge t (a .0) (a .1) pt in
+      let er : RepliesTo k (hmac k challenge) region r = subst (λ (m : List ℕ). RepliesTo k m region r) et pr in
+      let s : (long k || long (hmac k challenge) || long region) ≡ (long k || long challenge || long region) =
+          simp (a .0, a .1, hmac-short k challenge) in
+      subst (λ (x : Bool). Gives x (replyTo k (hmac k challenge) region) r) s er
 
 -- ---- steps 1 and 2
 

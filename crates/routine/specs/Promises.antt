@@ -12,7 +12,7 @@ use Rattle.sha256.specs.declared.Digest.{Digest}
 use Rattle.sha256.specs.Promises.{Gives}
 use Rattle.hmac.specs.Promises.{long}
 use Rattle.routine.specs.Strings.{greater, same}
-use Rattle.routine.specs.Routine.{token, reply, requestCheck}
+use Rattle.routine.specs.Routine.{token, replyTo, reply, requestCheck}
 
 -- `greater` and `equal`
 abbrev pub Compares : List ℕ → List ℕ → Bool → Type 0
@@ -24,6 +24,10 @@ Equals a b r = r ≡ same a b
 -- `token`
 abbrev pub Tokens : List ℕ → List ℕ → Digest → Type 0
 Tokens k challenge r = Gives (long k || long challenge) (token k challenge) r
+
+-- `reply_to`
+abbrev pub RepliesTo : List ℕ → List ℕ → List ℕ → Digest → Type 0
+RepliesTo k t region r = Gives (long k || long t || long region) (replyTo k t region) r
 
 -- `reply`
 abbrev pub Replies : List ℕ → List ℕ → List ℕ → Digest → Type 0

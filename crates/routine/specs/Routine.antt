@@ -16,11 +16,14 @@ token k challenge = hmac k challenge
 
 -- step 3: one-time key = HMAC(K, T), made from the token and never from the challenge itself
 unfoldable pub oneTimeKey : List ℕ → List ℕ → List ℕ
-oneTimeKey k challenge = hmac k (token k challenge)
+oneTimeKey k t = hmac k t
 
--- step 3: reply = HMAC(one-time key, region)
+-- step 3: reply = HMAC(one-time key, region); `replyTo` for a T that is there, `reply` for the challenge's
+unfoldable pub replyTo : List ℕ → List ℕ → List ℕ → List ℕ
+replyTo k t region = hmac (oneTimeKey k t) region
+
 unfoldable pub reply : List ℕ → List ℕ → List ℕ → List ℕ
-reply k challenge region = hmac (oneTimeKey k challenge) region
+reply k challenge region = replyTo k (token k challenge) region
 
 -- steps 1 and 2: the challenge must be greater than the counter, and T must equal the token that came with it
 unfoldable pub requestCheck : List ℕ → List ℕ → List ℕ → List ℕ → Answer

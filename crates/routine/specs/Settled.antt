@@ -7,7 +7,7 @@ use Rattle.refusal.specs.Settled.{row-settled}
 use Rattle.refusal.specs.declared.Answer.{Answer}
 use Rattle.sha256.specs.declared.Digest.{Digest}
 use Rattle.sha256.specs.Settled.{gives-settled}
-use Rattle.routine.specs.Promises.{Compares, Equals, Tokens, Replies, Authorises}
+use Rattle.routine.specs.Promises.{Compares, Equals, Tokens, RepliesTo, Replies, Authorises}
 
 pub compares-settled : (a b : List ℕ) (r q : Bool) → Compares a b r → Compares a b q → r ≡ q
 compares-settled a b r q p p′ = p ∙ sym p′
@@ -17,6 +17,9 @@ equals-settled a b r q p p′ = p ∙ sym p′
 
 pub tokens-settled : (k challenge : List ℕ) (r q : Digest) → Tokens k challenge r → Tokens k challenge q → r ≡ q
 tokens-settled k challenge r q p p′ = gives-settled r q p p′
+
+pub replies-to-settled : (k t region : List ℕ) (r q : Digest) → RepliesTo k t region r → RepliesTo k t region q → r ≡ q
+replies-to-settled k t region r q p p′ = gives-settled r q p p′
 
 pub replies-settled : (k challenge region : List ℕ) (r q : Digest)
     → Replies k challenge region r → Replies k challenge region q → r ≡ q

@@ -45,16 +45,26 @@ pub fn token(key: &[u8], challenge: &[u8]) -> Digest
     hmac::mac(key, challenge)
 }
 
-// The reply for a key, a challenge and a region. The region is hashed where it stands.
+// The reply for a key, T and a region. The region is hashed where it stands.
+pub fn reply_to(key: &[u8], t: &[u8], region: &[u8]) -> Digest
+    ensures { λ r. ⌜ P.RepliesTo (now (key .entry)) (now (t .entry)) (now (region .entry)) r ⌝ }
+{
+    if (key.len() > hmac::MOST) | (t.len() > hmac::MOST) | (region.len() > hmac::MOST) {
+        return Digest::refused();
+    }
+    let one_time_key = hmac::mac(key, t).bytes;
+    hmac::mac(&one_time_key, region)
+}
+
+// The reply for a key, a challenge and a region.
 pub fn reply(key: &[u8], challenge: &[u8], region: &[u8]) -> Digest
     ensures { λ r. ⌜ P.Replies (now (key .entry)) (now (challenge .entry)) (now (region .entry)) r ⌝ }
 {
-    if (key.len() > hmac::MOST) | (challenge.len() > hmac::MOST) | (region.len() > hmac::MOST) {
+    if (key.len() > hmac::MOST) | (challenge.len() > hmac::MOST) {
         return Digest::refused();
     }
     let t = token(key, challenge).bytes;
-    let one_time_key = hmac::mac(key, &t).bytes;
-    hmac::mac(&one_time_key, region)
+    reply_to(key, &t, region)
 }
 
 // Steps 1 and 2: is the challenge greater than the counter, and is T the token that came with it?

@@ -1,6 +1,5 @@
 -- `routine::reply` meets its contract. Assumes nothing.
-use Rattle.sha256.proofs.Answers.{gives-refused}
-use Rattle.routine.proofs.Requests.{reply-made}
+use Rattle.routine.proofs.Requests.{reply-refused, reply-made}
 use borrow.Author.Needs.{needs}
 use Rattle.routine.proofs.reply.Statement.{statement}
 use Rattle.routine.proofs.reply.Tie as tie
@@ -9,25 +8,19 @@ refused-requires : tie.Need-refused-requires
 refused-requires c κs = search needs
 
 returns : tie.Need-returns
-returns c = gives-refused (c .before .if1 .taken) (c .refused .ensures)
+returns c = reply-refused _ _ _ _ (c .before .if1 .taken) (c .refused .ensures)
 
 token-requires : tie.Need-token-requires
 token-requires c κs = search needs
 
-slice-aggregate-mac : tie.Need-slice-aggregate-mac
-slice-aggregate-mac c = search needs
+slice-aggregate-reply-to : tie.Need-slice-aggregate-reply-to
+slice-aggregate-reply-to c = search needs
 
-mac-requires : tie.Need-mac-requires
-mac-requires c κs = search needs
-
-slice-aggregate-mac-2 : tie.Need-slice-aggregate-mac-2
-slice-aggregate-mac-2 c = search needs
-
-mac-requires-2 : tie.Need-mac-requires-2
-mac-requires-2 c κs = search needs
+reply-to-requires : tie.Need-reply-to-requires
+reply-to-requires c κs = search needs
 
 returns-2 : tie.Need-returns-2
-returns-2 c = reply-made _ _ _ (c .before .before .before .before .before .before .token .result) (c .before .before .before .mac .result) _ (c .before .before .before .before .before .before .before .if1 .left) (c .before .before .before .before .before .before .token .ensures) (c .before .before .before .mac .ensures) (c .mac2 .ensures)
+returns-2 c = reply-made _ _ _ (c .before .before .before .token .result) _ (c .before .before .before .before .if1 .left) (c .before .before .before .token .ensures) (c .reply-to .ensures)
 
 pub reply-spec : {M : Type 1} → statement M
 reply-spec =
@@ -36,8 +29,6 @@ reply-spec =
     refused-requires
     returns
     token-requires
-    slice-aggregate-mac
-    mac-requires
-    slice-aggregate-mac-2
-    mac-requires-2
+    slice-aggregate-reply-to
+    reply-to-requires
     returns-2)

@@ -1,2 +1,4 @@
 pub mod Stores
 pub mod Laws
+pub mod Copies
+pub mod Attests

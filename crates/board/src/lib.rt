@@ -1,1 +1,145 @@
 // Attestation on a board's memory.
+use layout::Checked;
+use layout::Layout;
+use layout::Region;
+use refusal::Answer;
+ghost use mathlib.Core.Path.{_≡_};
+ghost use Prim.Native.Nat.{_+_, _≤_, _<_};
+ghost use lib.ListN.{length};
+ghost use lib.Seq.{sets};
+ghost use Rattle.refusal.specs.Answers.{row, lent};
+ghost use Rattle.layout.specs.Regions.{size};
+ghost use Rattle.layout.specs.Calls.{memoryBytes};
+ghost use Rattle.routine.specs.Routine.{token, replyTo, requestCheck};
+ghost use Rattle.board.specs.Memory as M;
+ghost use Rattle.board.specs.Attestation as S;
+ghost use Rattle.board.specs.Promises as P;
+
+// The bytes of a challenge, a token or a reply. They stand in MR in this order.
+const STRING: usize = 32;
+
+// A region's lowest address.
+fn lowest(r: Region) -> usize
+    ensures { λ a. ⌜ (a ≡ r .lo) × (r .hi < memoryBytes) ⌝ }
+{
+    r.lo as usize
+}
+
+// A region's bytes, where they stand.
+fn part(memory: &[u8], r: Region) -> &[u8]
+    requires { ⌜ (length (now memory) ≡ memoryBytes) × (1 ≤ size r) ⌝ }
+    ensures { λ x. ⌜ (now x ≡ M.bytesOf r (now (memory .entry))) × (length (now x) ≡ size r) × (size r ≤ memoryBytes) ⌝ }
+{
+    let a = r.lo as usize;
+    let e = r.hi as usize + 1;
+    &memory[a..e]
+}
+
+// 32 bytes, where they stand.
+fn string(memory: &[u8], a: usize) -> &[u8]
+    requires { ⌜ a + 32 ≤ length (now memory) ⌝ }
+    ensures { λ x. ⌜ (now x ≡ M.bytesAt a 32 (now (memory .entry))) × (length (now x) ≡ 32) ⌝ }
+{
+    let e = a + STRING;
+    &memory[a..e]
+}
+
+// Steps 1 and 2, which only read.
+fn authorise(memory: &[u8], l: Layout) -> Answer
+    requires { ⌜ (length (now memory) ≡ memoryBytes) × M.Sized l ⌝ }
+    ensures { λ r. ⌜ row r
+        ≡ row (requestCheck (M.key l (now (memory .entry))) (M.challenge l (now (memory .entry)))
+        (M.received l (now (memory .entry))) (M.counter l (now (memory .entry)))) ⌝ }
+{
+    let mail = lowest(l.mr);
+    let key = part(memory, l.kr);
+    let counter = part(memory, l.ctr);
+    let challenge = string(memory, mail);
+    let received = string(memory, mail + STRING);
+    routine::authorise(key, challenge, received, counter)
+}
+
+// The reply of step 3 to the token that came, which only reads.
+fn reply(memory: &[u8], l: Layout) -> [u8; 32]
+    requires { ⌜ (length (now memory) ≡ memoryBytes) × M.Sized l ⌝ }
+    ensures { λ r. ⌜ r
+        ≡ replyTo (M.key l (now (memory .entry))) (M.received l (now (memory .entry)))
+        (M.attested l (now (memory .entry))) ⌝ }
+{
+    let mail = lowest(l.mr);
+    let key = part(memory, l.kr);
+    let region = part(memory, l.ar);
+    let received = string(memory, mail + STRING);
+    let r = routine::reply_to(key, received, region).bytes;
+    r
+}
+
+// 32 bytes copied out of the memory.
+fn copy(memory: &[u8], a: usize) -> [u8; 32]
+    requires { ⌜ a + 32 ≤ length (now memory) ⌝ }
+    ensures { λ r. ⌜ r ≡ M.bytesAt a 32 (now (memory .entry)) ⌝ }
+{
+    let mut x = [0u8; 32];
+    let mut i = 0;
+    while i < STRING {
+        x[i] = memory[a + i];
+        i += 1;
+    }
+    x
+}
+
+// 32 bytes stored into the memory.
+fn store(memory: &mut [u8], a: usize, x: &[u8])
+    requires { ⌜ (a + 32 ≤ length (now memory)) × (length (now x) ≡ 32) ⌝ }
+    ensures { λ r. ⌜ now (memory .exit) ≡ sets (now (memory .entry)) a (now (x .entry)) ⌝ }
+{
+    let mut i = 0;
+    while i < STRING {
+        memory[a + i] = x[i];
+        i += 1;
+    }
+}
+
+// Step 3: the reply is stored, and CTR becomes the challenge. The token that came is T.
+fn accept(memory: &mut [u8], l: Layout)
+    requires { ⌜ (length (now memory) ≡ memoryBytes) × M.Sized l
+        × (token (M.key l (now memory)) (M.challenge l (now memory)) ≡ M.received l (now memory)) ⌝ }
+    ensures { λ r. ⌜ now (memory .exit) ≡ S.accepted l (now (memory .entry)) ⌝ }
+{
+    let mail = lowest(l.mr);
+    let counter = lowest(l.ctr);
+    let challenge = copy(memory, mail);
+    let due = reply(memory, l);
+    store(memory, mail + 2 * STRING, &due);
+    store(memory, counter, &challenge);
+}
+
+// The routine: steps 1 and 2 and, if they refuse nothing, step 3.
+fn answer(memory: &mut [u8], l: Layout) -> Answer
+    requires { ⌜ (length (now memory) ≡ memoryBytes) × M.Sized l ⌝ }
+    ensures { λ r. ⌜ (row r
+        ≡ row (requestCheck (M.key l (now (memory .entry))) (M.challenge l (now (memory .entry)))
+        (M.received l (now (memory .entry))) (M.counter l (now (memory .entry)))))
+        × (now (memory .exit)
+        ≡ lent (requestCheck (M.key l (now (memory .entry))) (M.challenge l (now (memory .entry)))
+        (M.received l (now (memory .entry))) (M.counter l (now (memory .entry))))
+        (S.accepted l (now (memory .entry))) (now (memory .entry))) ⌝ }
+{
+    match authorise(memory, l) {
+        Answer::Done => {
+            accept(memory, l);
+            Answer::Done
+        }
+        Answer::Refused(r) => Answer::Refused(r),
+    }
+}
+
+// Attestation on lent memory: done, with the reply in MR and the challenge in CTR, or refused with nothing changed.
+pub fn attest(memory: &mut [u8], layout: &[u8]) -> Answer
+    ensures { λ r. ⌜ P.Attests (now (memory .entry)) (now (layout .entry)) (now (memory .exit)) r ⌝ }
+{
+    match layout::admit(memory, layout, Answer::Done) {
+        Checked::Good(l) => answer(memory, l),
+        Checked::Refused(r) => Answer::Refused(r),
+    }
+}

@@ -1,11 +1,14 @@
 -- The check that comes first in a call on a board's memory: what has passed, and what follows. Assumes nothing.
 use mathlib.Core.Path.{_≡_, refl, ap}
-use mathlib.Core.Bool.{not}
+use mathlib.Core.Bool.{Bool, true, false, not}
 use mathlib.Core.List.{List}
 use Prim.Native.Nat.{ℕ}
+use native.Mathlib.Omega.{arith}
 use lib.Dec.{eqb}
 use lib.ListN.{length}
 use borrow.Author.Tests.{eqb-true, eq-eqb, not-false}
+use Rattle.refusal.specs.Choice.{pick}
+use Rattle.refusal.specs.Answers.{andThen}
 use Rattle.refusal.specs.declared.Refusal.{Refusal}
 use Rattle.refusal.specs.declared.Answer.{Answer}
 use Rattle.refusal.specs.declared.Answer.the-variants.{Done, Refused}
@@ -27,6 +30,18 @@ call-passed memory layout rest e =
 pub call-rest : (memory layout : List ℕ) (rest : Answer) → length memory ≡ memoryBytes → layoutCheck layout ≡ Done
     → callCheck memory layout rest ≡ rest
 call-rest memory layout rest w e = simp (eq-eqb (length memory) memoryBytes w, e)
+
+refused-anyway : (t : Bool) (x q : Refusal) (a rest : Answer) → pick t (Refused x) (andThen a Done) ≡ Refused q
+    → pick t (Refused x) (andThen a rest) ≡ Refused q
+refused-anyway true x q a rest e = e
+refused-anyway false x q (Refused r) rest e = e
+refused-anyway false x q Done rest e = absurd (let z : _≡_ {A = ℕ} 0 1 = cc in omega arith)
+
+-- what is refused before the rest is looked at
+pub call-refused : (memory layout : List ℕ) (rest : Answer) (q : Refusal) → callCheck memory layout Done ≡ Refused q
+    → callCheck memory layout rest ≡ Refused q
+call-refused memory layout rest q e =
+    refused-anyway (not (eqb (length memory) memoryBytes)) _ q (layoutCheck layout) rest e
 
 -- `admit`, on plain variables
 module _ (memory layout : List ℕ) (rest : Answer) (long : length memory ≡ memoryBytes) where

@@ -56,7 +56,7 @@ module _ (k challenge region : List ℕ) where
       let et : t .bytes ≡ hmac k challenge = mac-bytes k challenge t (a .0) (a .1) pt in
       let er : RepliesTo k (hmac k challenge) region r = subst (λ (m : List ℕ). RepliesTo k m region r) et pr in
       let s : (long k || long (hmac k challenge) || long region) ≡ (long k || long challenge || long region) =
-          simp (a .0, a .1, hmac-short k challenge) in
+      simp (a .0, a .1, hmac-short k challenge) in
       subst (λ (x : Bool). Gives x (replyTo k (hmac k challenge) region) r) s er
 
 -- ---- steps 1 and 2

@@ -1,0 +1,222 @@
+-- The claims about the counter's history hold. Assumes nothing.
+use mathlib.Core.Path.{_≡_, refl, sym, ap, subst, _∙_}
+use mathlib.Core.Logic.{_≢_, _⊎_, inl, inr}
+use mathlib.Core.Bool.{true, false, or-true}
+use mathlib.Core.List.{List}
+use Prim.Native.Nat.{ℕ, zero, suc, _≤_, _<_}
+use native.Mathlib.Omega.{arith}
+use lib.Dec.{eqb, ltb}
+use lib.ListN.{length, getD}
+use borrow.Author.Tests.{eqb-true, eqb-false, ltb-true, ltb-false}
+use Rattle.refusal.specs.Bytes.{Bytes}
+use Rattle.refusal.specs.Answers.{lent}
+use Rattle.refusal.specs.Settled.{row-settled}
+use Rattle.refusal.specs.declared.Refusal.{Refusal}
+use Rattle.refusal.specs.declared.Answer.{Answer}
+use Rattle.refusal.specs.declared.Answer.the-variants.{Done, Refused}
+use Rattle.refusal.proofs.Tests.{cases, clash, untrue}
+use Rattle.layout.specs.declared.Layout.{Layout}
+use Rattle.layout.specs.Regions.{within}
+use Rattle.layout.specs.Layouts.{layoutOf}
+use Rattle.layout.specs.Calls.{callCheck}
+use Rattle.layout.proofs.Placed.{placed}
+use Rattle.rules.specs.declared.Step.{Step}
+use Rattle.monitor.specs.Runs.{State, count, steps, begin, before, memoryAfter}
+use Rattle.monitor.specs.Promises.{traceCheck}
+use Rattle.routine.specs.Strings.{greater, number}
+use Rattle.routine.proofs.Order.{greater-irreflexive, greater-trans, number-greater}
+use Rattle.board.specs.Memory.{counter, challenge}
+use Rattle.board.specs.Attestation.{attestCheck}
+use Rattle.board.specs.Promises.{Attests}
+use Rattle.board.proofs.Laws.{bytes-part, region-agrees, length-challenge, accepted-counter, done-allowed}
+use Rattle.demands.specs.Traces.{remembers, byteAt}
+use Rattle.demands.specs.History as claim
+use Rattle.demands.specs.History.{Event, attest, trace, change, Keeps, storesCounter, CounterLeft, Happens, History, Accepted, counterAt}
+use Rattle.demands.proofs.Traces.{length-kept, rom, guarded}
+
+-- ---- a trace
+
+-- a byte of CTR stays at a step at which the attestation code does not store there
+counter-stays : (l : Layout) (t : ℕ → Step) (x : State) (n a : ℕ) → within (l .ctr) a ≡ true
+    → storesCounter l (remembers l t x n) (t n) ≡ false → byteAt l t x (suc n) a ≡ byteAt l t x n a
+counter-stays l t x n a w e =
+    elim (guarded l t x n a (simp w)) [
+      | inl stays ↦ stays
+      | inr c ↦
+          clash (storesCounter l (remembers l t x n) (t n)) (simp (c .passes, c .inside, c .writes, c .address, w)) e
+    ]
+
+counter-kept : (l : Layout) (t : ℕ → Step) (x : State) (n a : ℕ) → within (l .ctr) a ≡ true
+    → ((i : ℕ) → i < n → storesCounter l (remembers l t x i) (t i) ≡ false) → byteAt l t x n a ≡ getD (x .memory) a 0
+unfolding before
+counter-kept l t x zero a w f = refl
+counter-kept l t x (suc n) a w f =
+    counter-stays l t x n a w (f n (omega arith)) ∙ counter-kept l t x n a w (λ i h. f i (omega arith))
+
+judged-keeps : (l : Layout) (b memory : List ℕ) → CounterLeft l b memory → Keeps l memory (memoryAfter l b memory)
+judged-keeps l b memory f =
+    let t = steps b in
+    let x = begin memory in
+    let n = count b in
+    let e = length-kept l t x n in
+    record {
+      long = e;
+      code = region-agrees (l .cr) (memoryAfter l b memory) memory e (λ a w. rom l t x n a (simp w));
+      key = region-agrees (l .kr) (memoryAfter l b memory) memory e (λ a w. rom l t x n a (simp (w, or-true)));
+      counter = region-agrees (l .ctr) (memoryAfter l b memory) memory e (λ a w. counter-kept l t x n a w f);
+    }
+
+-- a call that keeps them where it is not refused keeps them
+lent-keeps : (l : Layout) (a : Answer) (x y z : List ℕ) → z ≡ lent a y x → Keeps l x y → Keeps l x z
+lent-keeps l Done x y z e k = subst (λ (m : List ℕ). Keeps l x m) (sym e) k
+lent-keeps l (Refused r) x y z e k =
+    record { long = ap length e; code = simp e; key = simp e; counter = simp e }
+
+pub trace-keeps : claim.TraceKeeps
+trace-keeps memory layout b room memory′ room′ r t f =
+    let l = layoutOf layout in
+    lent-keeps l (callCheck memory layout (traceCheck b (length room))) memory (memoryAfter l b memory) memory′ (t .memory-left)
+    (judged-keeps l b memory f)
+
+-- ---- one event
+
+-- an accepted call: its challenge is greater than the counter, and the counter afterwards
+record Advances (l : Layout) (x y : List ℕ) : Type 0 where
+  fresh : greater (challenge l x) (counter l x) ≡ true
+  counted : counter l y ≡ challenge l x
+  long : length (challenge l x) ≡ 32
+
+advances : (layout x y : List ℕ) → Bytes layout → Attests x layout y Done → Advances (layoutOf layout) x y
+advances layout x y h p =
+    let l = layoutOf layout in
+    let d : attestCheck x layout ≡ Done = sym (row-settled Done (attestCheck x layout) (p .answered)) in
+    let a = done-allowed x layout d in
+    let q = placed layout h (a .laid) in
+    record {
+      fresh = a .fresh;
+      counted = ap (λ (m : List ℕ). counter l m) (p .memory-left ∙ simp d) ∙ accepted-counter l q x (a .long);
+      long = length-challenge l q x (a .long);
+    }
+
+refused-left : (layout x y : List ℕ) (r : Refusal) → Attests x layout y (Refused r) → y ≡ x
+refused-left layout x y r p =
+    let d : attestCheck x layout ≡ Refused r = sym (row-settled (Refused r) (attestCheck x layout) (p .answered)) in
+    p .memory-left ∙ simp d
+
+-- b is a or greater
+abbrev Rises : List ℕ → List ℕ → Type 0
+Rises a b = (b ≡ a) ⊎ (greater b a ≡ true)
+
+rises-on : (a b c : List ℕ) → Rises a b → Rises b c → Rises a c
+rises-on a b c p q =
+    elim p [
+      | inl e ↦ subst (λ (s : List ℕ). Rises s c) e q
+      | inr g ↦ elim q [ inl e ↦ inr (rw e g) | inr f ↦ inr (greater-trans c b a f g) ]
+    ]
+
+event-rises : (layout : List ℕ) → Bytes layout → (e : Event) (x y : List ℕ) → Happens layout e x y
+    → Rises (counter (layoutOf layout) x) (counter (layoutOf layout) y)
+event-rises layout h (attest Done) x y p =
+    let a = advances layout x y h p in
+    inr (rw (a .counted) (a .fresh))
+event-rises layout h (attest (Refused r)) x y p =
+    inl (ap (λ (m : List ℕ). counter (layoutOf layout) m) (refused-left layout x y r p))
+event-rises layout h (trace b r) x y p =
+    inl (trace-keeps x layout b (p .0 .0) y (p .0 .1) r (p .0 .2) (p .1) .counter)
+event-rises layout h change x y p = inl (p .counter)
+
+-- ---- over every history
+
+pub counter-rises : claim.CounterRises
+counter-rises layout events memories n s i zero h k =
+    let e : 0 ≡ i = omega arith in
+    inl (ap (λ (m : ℕ). counterAt layout events memories m) e)
+counter-rises layout events memories n s i (suc j) h k =
+    cases (eqb i (suc j))
+    (λ t. inl (ap (λ (m : ℕ). counterAt layout events memories m) (sym (eqb-true i (suc j) t))))
+    (λ t.
+    let o : i ≢ suc j = eqb-false i (suc j) t in
+    rises-on (counterAt layout events memories i) (counterAt layout events memories j) (counterAt layout events memories (suc j))
+    (counter-rises layout events memories n s i j (omega arith) (omega arith))
+    (event-rises layout (s .layoutBytes) (events j) (memories j) (memories (suc j)) (s .happens j k)))
+
+-- what is greater than a string is greater than all that it has risen from
+greater-rises : (a b c : List ℕ) → Rises a b → greater c b ≡ true → greater c a ≡ true
+greater-rises a b c p g = elim p [ inl e ↦ rw (← e) g | inr f ↦ greater-trans c b a g f ]
+
+pub old-stays-old : claim.OldStaysOld
+old-stays-old layout events memories n s i j h k c e =
+    let a = counterAt layout events memories i in
+    let b = counterAt layout events memories j in
+    untrue (greater c b) (λ g. clash (greater c a) (greater-rises a b c (counter-rises layout events memories n s i j h k) g) e)
+
+module _ (layout : List ℕ) (events : ℕ → Event) (memories : ℕ → List ℕ) (n : ℕ) (s : History layout events memories n) where
+  accepted-advances : (i : ℕ) (c : List ℕ) → i < n → Accepted layout events memories i c
+      → Advances (layoutOf layout) (memories i) (memories (suc i))
+  accepted-advances i c h a =
+      advances layout (memories i) (memories (suc i)) (s .layoutBytes)
+      (subst (λ (e : Event). Happens layout e (memories i) (memories (suc i))) (a .event) (s .happens i h))
+
+  rising : (i j : ℕ) (c d : List ℕ) → i < j → j < n
+      → Accepted layout events memories i c → Accepted layout events memories j d → greater d c ≡ true
+  rising i j c d h k a b =
+      let p = accepted-advances i c (omega arith) a in
+      let q = accepted-advances j d k b in
+      let r = counter-rises layout events memories n s (suc i) j h (omega arith) in
+      rw (a .request, b .request, ← p .counted)
+      (greater-rises (counterAt layout events memories (suc i)) (counterAt layout events memories j)
+      (challenge (layoutOf layout) (memories j)) r (q .fresh))
+
+  numbers : (i j : ℕ) (c d : List ℕ) → i < j → j < n → Bytes (memories i) → Bytes (memories j)
+      → Accepted layout events memories i c → Accepted layout events memories j d → number c < number d
+  numbers i j c d h k u v a b =
+      let l = layoutOf layout in
+      let p = accepted-advances i c (omega arith) a in
+      let q = accepted-advances j d k b in
+      let x = challenge l (memories i) in
+      let y = challenge l (memories j) in
+      rw (a .request, b .request)
+      (number-greater y x (q .long ∙ sym (p .long)) (bytes-part (l .mr .lo) 32 (memories j) v)
+      (bytes-part (l .mr .lo) 32 (memories i) u)
+      (subst (λ (z : List ℕ). greater y z ≡ true) (a .request) (subst (λ (z : List ℕ). greater z c ≡ true) (b .request) (rising i j c d h k a b))))
+
+  -- of two accepted checks, neither of which has a greater challenge, neither is later
+  one-time : (i j : ℕ) (c d : List ℕ) → i < n → j < n → Accepted layout events memories i c → Accepted layout events memories j d
+      → greater d c ≡ false → greater c d ≡ false → i ≡ j
+  one-time i j c d h k a b u v =
+      cases (ltb i j) (λ t. clash (greater d c) (rising i j c d (ltb-true i j t) k a b) u)
+      (λ t. cases (ltb j i) (λ o. clash (greater c d) (rising j i d c (ltb-true j i o) h b a) v)
+      (λ o.
+      let x = ltb-false i j t in
+      let y = ltb-false j i o in
+      omega arith))
+
+  -- the greater challenge came later
+  later : (i j : ℕ) (c d : List ℕ) → i < n → j < n → Accepted layout events memories i c → Accepted layout events memories j d
+      → greater d c ≡ true → i < j
+  later i j c d h k a b g =
+      cases (ltb i j) (λ t. ltb-true i j t)
+      (λ t. cases (ltb j i)
+      (λ o. clash (greater d d) (greater-trans d c d g (rising j i d c (ltb-true j i o) h b a)) (greater-irreflexive d))
+      (λ o.
+      let x = ltb-false i j t in
+      let y = ltb-false j i o in
+      let e : j ≡ i = omega arith in
+      let f : d ≡ c = b .request ∙ ap (λ (m : ℕ). challenge (layoutOf layout) (memories m)) e ∙ sym (a .request) in
+      clash (greater d c) g (rw f (greater-irreflexive c))))
+
+pub increase : claim.Increase
+increase = rising
+
+pub numbers-increase : claim.NumbersIncrease
+numbers-increase = numbers
+
+pub never-twice : claim.NeverTwice
+never-twice layout events memories n s i j c h k a b =
+    one-time layout events memories n s i j c c h k a b (greater-irreflexive c) (greater-irreflexive c)
+
+pub later-is-larger : claim.LaterIsLarger
+later-is-larger layout events memories n s i j c d h k a b = (
+  λ t. rising layout events memories n s i j c d t k a b,
+  later layout events memories n s i j c d h k a b,
+)

@@ -23,7 +23,7 @@ use Rattle.layout.proofs.Placed.{placed}
 use Rattle.rules.specs.declared.Step.{Step}
 use Rattle.monitor.specs.Runs.{State, count, steps, begin, before, memoryAfter}
 use Rattle.monitor.specs.Promises.{traceCheck}
-use Rattle.routine.specs.Strings.{greater, number}
+use Rattle.routine.specs.Strings.{greater}
 use Rattle.routine.proofs.Order.{greater-irreflexive, greater-trans, number-greater}
 use Rattle.board.specs.Memory.{counter, challenge}
 use Rattle.board.specs.Attestation.{attestCheck}
@@ -150,73 +150,53 @@ old-stays-old layout events memories n s i j h k c e =
     let b = counterAt layout events memories j in
     untrue (greater c b) (λ g. clash (greater c a) (greater-rises a b c (counter-rises layout events memories n s i j h k) g) e)
 
-module _ (layout : List ℕ) (events : ℕ → Event) (memories : ℕ → List ℕ) (n : ℕ) (s : History layout events memories n) where
-  accepted-advances : (i : ℕ) (c : List ℕ) → i < n → Accepted layout events memories i c
-      → Advances (layoutOf layout) (memories i) (memories (suc i))
-  accepted-advances i c h a =
-      advances layout (memories i) (memories (suc i)) (s .layoutBytes)
-      (subst (λ (e : Event). Happens layout e (memories i) (memories (suc i))) (a .event) (s .happens i h))
-
-  rising : (i j : ℕ) (c d : List ℕ) → i < j → j < n
-      → Accepted layout events memories i c → Accepted layout events memories j d → greater d c ≡ true
-  rising i j c d h k a b =
-      let p = accepted-advances i c (omega arith) a in
-      let q = accepted-advances j d k b in
-      let r = counter-rises layout events memories n s (suc i) j h (omega arith) in
-      rw (a .request, b .request, ← p .counted)
-      (greater-rises (counterAt layout events memories (suc i)) (counterAt layout events memories j)
-      (challenge (layoutOf layout) (memories j)) r (q .fresh))
-
-  numbers : (i j : ℕ) (c d : List ℕ) → i < j → j < n → Bytes (memories i) → Bytes (memories j)
-      → Accepted layout events memories i c → Accepted layout events memories j d → number c < number d
-  numbers i j c d h k u v a b =
-      let l = layoutOf layout in
-      let p = accepted-advances i c (omega arith) a in
-      let q = accepted-advances j d k b in
-      let x = challenge l (memories i) in
-      let y = challenge l (memories j) in
-      rw (a .request, b .request)
-      (number-greater y x (q .long ∙ sym (p .long)) (bytes-part (l .mr .lo) 32 (memories j) v)
-      (bytes-part (l .mr .lo) 32 (memories i) u)
-      (subst (λ (z : List ℕ). greater y z ≡ true) (a .request) (subst (λ (z : List ℕ). greater z c ≡ true) (b .request) (rising i j c d h k a b))))
-
-  -- of two accepted checks, neither of which has a greater challenge, neither is later
-  one-time : (i j : ℕ) (c d : List ℕ) → i < n → j < n → Accepted layout events memories i c → Accepted layout events memories j d
-      → greater d c ≡ false → greater c d ≡ false → i ≡ j
-  one-time i j c d h k a b u v =
-      cases (ltb i j) (λ t. clash (greater d c) (rising i j c d (ltb-true i j t) k a b) u)
-      (λ t. cases (ltb j i) (λ o. clash (greater c d) (rising j i d c (ltb-true j i o) h b a) v)
-      (λ o.
-      let x = ltb-false i j t in
-      let y = ltb-false j i o in
-      omega arith))
-
-  -- the greater challenge came later
-  later : (i j : ℕ) (c d : List ℕ) → i < n → j < n → Accepted layout events memories i c → Accepted layout events memories j d
-      → greater d c ≡ true → i < j
-  later i j c d h k a b g =
-      cases (ltb i j) (λ t. ltb-true i j t)
-      (λ t. cases (ltb j i)
-      (λ o. clash (greater d d) (greater-trans d c d g (rising j i d c (ltb-true j i o) h b a)) (greater-irreflexive d))
-      (λ o.
-      let x = ltb-false i j t in
-      let y = ltb-false j i o in
-      let e : j ≡ i = omega arith in
-      let f : d ≡ c = b .request ∙ ap (λ (m : ℕ). challenge (layoutOf layout) (memories m)) e ∙ sym (a .request) in
-      clash (greater d c) g (rw f (greater-irreflexive c))))
+accepted-advances : (layout : List ℕ) (events : ℕ → Event) (memories : ℕ → List ℕ) (n : ℕ) → History layout events memories n
+    → (i : ℕ) (c : List ℕ) → i < n → Accepted layout events memories i c
+    → Advances (layoutOf layout) (memories i) (memories (suc i))
+accepted-advances layout events memories n s i c h a =
+    advances layout (memories i) (memories (suc i)) (s .layoutBytes)
+    (subst (λ (e : Event). Happens layout e (memories i) (memories (suc i))) (a .event) (s .happens i h))
 
 pub increase : claim.Increase
-increase = rising
+increase layout events memories n s i j c d h k a b =
+    let p = accepted-advances layout events memories n s i c (omega arith) a in
+    let q = accepted-advances layout events memories n s j d k b in
+    rw (a .request, b .request, ← p .counted)
+    (greater-rises (counterAt layout events memories (suc i)) (counterAt layout events memories j)
+    (challenge (layoutOf layout) (memories j)) (counter-rises layout events memories n s (suc i) j h (omega arith)) (q .fresh))
 
 pub numbers-increase : claim.NumbersIncrease
-numbers-increase = numbers
+numbers-increase layout events memories n s i j c d h k u v a b =
+    let p = accepted-advances layout events memories n s i c (omega arith) a in
+    let q = accepted-advances layout events memories n s j d k b in
+    let at = layoutOf layout .mr .lo in
+    number-greater d c (ap length (b .request) ∙ q .long ∙ sym (ap length (a .request) ∙ p .long))
+    (rw (b .request) (bytes-part at 32 (memories j) v))
+    (rw (a .request) (bytes-part at 32 (memories i) u))
+    (increase layout events memories n s i j c d h k a b)
+
+earlier-or-later : {P : Type 0} (i j : ℕ) → (i < j → P) → (j < i → P) → (i ≡ j → P) → P
+earlier-or-later i j f g h =
+    cases (ltb i j) (λ t. f (ltb-true i j t))
+    (λ t. cases (ltb j i) (λ o. g (ltb-true j i o)) (λ o. h (between (ltb-false j i o) (ltb-false i j t))))
+  where
+    between : i ≤ j → j ≤ i → i ≡ j
+    between p q = omega arith
 
 pub never-twice : claim.NeverTwice
 never-twice layout events memories n s i j c h k a b =
-    one-time layout events memories n s i j c c h k a b (greater-irreflexive c) (greater-irreflexive c)
+    earlier-or-later i j
+    (λ t. clash (greater c c) (increase layout events memories n s i j c c t k a b) (greater-irreflexive c))
+    (λ t. clash (greater c c) (increase layout events memories n s j i c c t h b a) (greater-irreflexive c))
+    (λ e. e)
 
 pub later-is-larger : claim.LaterIsLarger
 later-is-larger layout events memories n s i j c d h k a b = (
-  λ t. rising layout events memories n s i j c d t k a b,
-  later layout events memories n s i j c d h k a b,
+  λ t. increase layout events memories n s i j c d t k a b,
+  λ g. earlier-or-later i j
+      (λ t. t)
+      (λ t. clash (greater d d) (greater-trans d c d g (increase layout events memories n s j i d c t h b a)) (greater-irreflexive d))
+      (λ e.
+      let f : d ≡ c = b .request ∙ ap (λ (m : ℕ). challenge (layoutOf layout) (memories m)) (sym e) ∙ sym (a .request) in
+      clash (greater d c) g (rw f (greater-irreflexive c))),
 )

@@ -31,7 +31,7 @@ use Rattle.board.specs.Promises.{Attests}
 use Rattle.board.proofs.Laws.{bytes-part, region-agrees, length-challenge, accepted-counter, done-allowed}
 use Rattle.demands.specs.Traces.{remembers, byteAt}
 use Rattle.demands.specs.History as claim
-use Rattle.demands.specs.History.{Event, attest, trace, change, Keeps, storesCounter, CounterLeft, Happens, History, Accepted, counterAt}
+use Rattle.demands.specs.History.{Event, attest, trace, change, Keeps, storesCounter, Happens, History, Accepted, counterAt}
 use Rattle.demands.proofs.Traces.{length-kept, rom, guarded}
 
 -- ---- a trace
@@ -53,17 +53,16 @@ counter-kept l t x zero a w f = refl
 counter-kept l t x (suc n) a w f =
     counter-stays l t x n a w (f n (omega arith)) ∙ counter-kept l t x n a w (λ i h. f i (omega arith))
 
-judged-keeps : (l : Layout) (b memory : List ℕ) → CounterLeft l b memory → Keeps l memory (memoryAfter l b memory)
-judged-keeps l b memory f =
-    let t = steps b in
-    let x = begin memory in
-    let n = count b in
+pub run-keeps : (l : Layout) (t : ℕ → Step) (x : State) (n : ℕ)
+    → ((i : ℕ) → i < n → storesCounter l (remembers l t x i) (t i) ≡ false) → Keeps l (x .memory) (before l t x n .memory)
+run-keeps l t x n f =
+    let y = before l t x n .memory in
     let e = length-kept l t x n in
     record {
       long = e;
-      code = region-agrees (l .cr) (memoryAfter l b memory) memory e (λ a w. rom l t x n a (simp w));
-      key = region-agrees (l .kr) (memoryAfter l b memory) memory e (λ a w. rom l t x n a (simp (w, or-true)));
-      counter = region-agrees (l .ctr) (memoryAfter l b memory) memory e (λ a w. counter-kept l t x n a w f);
+      code = region-agrees (l .cr) y (x .memory) e (λ a w. rom l t x n a (simp w));
+      key = region-agrees (l .kr) y (x .memory) e (λ a w. rom l t x n a (simp (w, or-true)));
+      counter = region-agrees (l .ctr) y (x .memory) e (λ a w. counter-kept l t x n a w f);
     }
 
 -- a call that keeps them where it is not refused keeps them
@@ -76,7 +75,7 @@ pub trace-keeps : claim.TraceKeeps
 trace-keeps memory layout b room memory′ room′ r t f =
     let l = layoutOf layout in
     lent-keeps l (callCheck memory layout (traceCheck b (length room))) memory (memoryAfter l b memory) memory′ (t .memory-left)
-    (judged-keeps l b memory f)
+    (run-keeps l (steps b) (begin memory) (count b) f)
 
 -- ---- one event
 

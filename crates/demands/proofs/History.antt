@@ -21,8 +21,11 @@ use Rattle.layout.specs.Layouts.{layoutOf}
 use Rattle.layout.specs.Calls.{callCheck}
 use Rattle.layout.proofs.Placed.{placed}
 use Rattle.rules.specs.declared.Step.{Step}
+use Rattle.rules.specs.declared.Monitor.{Monitor}
+use Rattle.monitor.specs.declared.Stepped.{Stepped}
+use Rattle.monitor.specs.Effects.{written}
 use Rattle.monitor.specs.Runs.{State, count, steps, begin, before, memoryAfter}
-use Rattle.monitor.specs.Promises.{traceCheck}
+use Rattle.monitor.specs.Promises.{traceCheck, stepCheck, Steps}
 use Rattle.routine.specs.Strings.{greater}
 use Rattle.routine.proofs.Order.{greater-irreflexive, greater-trans, number-greater}
 use Rattle.board.specs.Memory.{counter, challenge}
@@ -53,6 +56,7 @@ counter-kept l t x zero a w f = refl
 counter-kept l t x (suc n) a w f =
     counter-stays l t x n a w (f n (omega arith)) ∙ counter-kept l t x n a w (λ i h. f i (omega arith))
 
+-- a run in which the attestation code leaves CTR alone keeps CR, KR and CTR
 pub run-keeps : (l : Layout) (t : ℕ → Step) (x : State) (n : ℕ)
     → ((i : ℕ) → i < n → storesCounter l (remembers l t x i) (t i) ≡ false) → Keeps l (x .memory) (before l t x n .memory)
 run-keeps l t x n f =
@@ -76,6 +80,17 @@ trace-keeps memory layout b room memory′ room′ r t f =
     let l = layoutOf layout in
     lent-keeps l (callCheck memory layout (traceCheck b (length room))) memory (memoryAfter l b memory) memory′ (t .memory-left)
     (run-keeps l (steps b) (begin memory) (count b) f)
+
+-- so does a one-step call in which it leaves CTR alone: in a history that is a `change`
+pub step-keeps : (memory layout step : List ℕ) (m : Monitor) (room memory′ room′ : List ℕ) (r : Stepped)
+    → Steps memory layout step m room memory′ room′ r → storesCounter (layoutOf layout) m (steps step 0) ≡ false
+    → Keeps (layoutOf layout) memory memory′
+unfolding before
+step-keeps memory layout step m room memory′ room′ r p e =
+    let l = layoutOf layout in
+    let s = steps step 0 in
+    lent-keeps l (callCheck memory layout (stepCheck step (length room))) memory (written l m s memory) memory′ (p .memory-left)
+    (run-keeps l (λ i. s) (record { monitor = m; memory = memory }) 1 (λ i h. let z : i ≡ 0 = omega arith in rw z e))
 
 -- ---- one event
 

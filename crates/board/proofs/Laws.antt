@@ -2,13 +2,14 @@
 use mathlib.Core.Path.{_≡_, refl, sym, _∙_}
 use mathlib.Core.Logic.{_⊎_, inl, inr}
 use mathlib.Core.Bool.{true, false}
-use mathlib.Core.List.{List}
-use Prim.Native.Nat.{ℕ, _+_, _≤_, _<_}
+use mathlib.Core.List.{List, [], _∷_}
+use Prim.Native.Nat.{ℕ, zero, suc, _+_, _≤_, _<_}
 use native.Mathlib.Omega.{arith}
 use borrow.Author.Tests.{ltb-true, ltb-false}
 use lib.Dec.{ltb}
-use lib.ListN.{length, getD, length-take, length-drop}
-use lib.Seq.{sets, length-sets}
+use lib.ListN.{length, getD, take, drop, length-take, length-drop}
+use lib.Seq.{sets, length-sets, getD-drop}
+use Rattle.refusal.specs.Bytes.{Bytes}
 use Rattle.refusal.specs.declared.Answer.the-variants.{Done}
 use Rattle.refusal.proofs.Tests.{cases, neither, clash}
 use Rattle.layout.specs.declared.Region.{Region}
@@ -22,14 +23,30 @@ use Rattle.layout.proofs.Placed.{Placed}
 use Rattle.routine.specs.Strings.{greater}
 use Rattle.routine.specs.Routine.{token, reply}
 use Rattle.routine.proofs.Laws.{length-reply, request-passed, request-passes}
-use Rattle.board.specs.Memory.{bytesAt, key, counter, attested, challenge, received, replyAt, replied}
+use Rattle.board.specs.Memory.{bytesAt, bytesOf, key, counter, attested, challenge, received, replyAt, replied}
 use Rattle.board.specs.Attestation.{attestCheck, due, accepted, storesTo}
-use Rattle.board.proofs.Stores.{Off, stored-there, stored-off, stored-apart}
+use Rattle.board.proofs.Stores.{Off, bytes-agree, stored-there, stored-off, stored-apart}
 
 -- ---- what is read
 
 pub length-bytes : (a n : ℕ) (memory : List ℕ) → a + n ≤ length memory → length (bytesAt a n memory) ≡ n
 length-bytes a n memory h = simp (length-take, length-drop) (omega arith)
+
+bytes-first : (n : ℕ) (memory : List ℕ) → Bytes memory → Bytes (take n memory)
+bytes-first zero memory h i = omega arith
+bytes-first (suc n) [] h i = omega arith
+bytes-first (suc n) (x ∷ memory) h zero = h 0
+bytes-first (suc n) (x ∷ memory) h (suc i) = bytes-first n memory (λ k. h (suc k)) i
+
+-- a part of a memory of bytes is bytes
+pub bytes-part : (a n : ℕ) (memory : List ℕ) → Bytes memory → Bytes (bytesAt a n memory)
+bytes-part a n memory h = bytes-first n (drop a memory) (λ i. rw getD-drop (h (a + i)))
+
+-- memories of one length that agree at each address of a region have the same bytes there
+pub region-agrees : (r : Region) (x y : List ℕ) → length x ≡ length y → ((a : ℕ) → within r a ≡ true → getD x a 0 ≡ getD y a 0)
+    → bytesOf r x ≡ bytesOf r y
+region-agrees r x y e f =
+    bytes-agree x y (r .lo) (size r) e (λ i h. f (r .lo + i) (ends-within r (r .lo + i) (omega arith) (omega arith)))
 
 pub due-is : (l : Layout) (memory : List ℕ) → due l memory ≡ reply (key l memory) (challenge l memory) (attested l memory)
 unfolding due

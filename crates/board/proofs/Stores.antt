@@ -27,16 +27,23 @@ stored-off l a (x ∷ v) k o =
     stored-off (set l a x) (suc a) v k (elim o [ inl h ↦ inl (omega arith) | inr h ↦ inr (omega arith) ])
     ∙ getD-set-other l a k x 0 n
 
+-- memories of one length that agree at n addresses from a on have the same bytes there
+pub bytes-agree : (x y : List ℕ) (a n : ℕ) → length x ≡ length y → ((i : ℕ) → i < n → getD x (a + i) 0 ≡ getD y (a + i) 0)
+    → bytesAt a n x ≡ bytesAt a n y
+bytes-agree x y a n e f =
+    ext-getD 0 (bytesAt a n x) (bytesAt a n y)
+    (simp (length-take, length-drop, e))
+    (λ i h.
+    let hn : i < n = omega (arith, length-take n (drop a x)) in
+    getD-take n (drop a x) i 0 hn
+    ∙ getD-drop a x i 0
+    ∙ f i hn
+    ∙ sym (getD-drop a y i 0)
+    ∙ sym (getD-take n (drop a y) i 0 hn))
+
 -- bytes elsewhere are read as before
 pub stored-apart : (l : List ℕ) (a : ℕ) (v : List ℕ) (b n : ℕ) → (b + n ≤ a) ⊎ (a + length v ≤ b)
     → bytesAt b n (sets l a v) ≡ bytesAt b n l
 stored-apart l a v b n o =
-    ext-getD 0 (bytesAt b n (sets l a v)) (bytesAt b n l)
-    (simp (length-take, length-drop, length-sets))
-    (λ i h.
-    let hn : i < n = omega (arith, length-take n (drop b (sets l a v))) in
-    getD-take n (drop b (sets l a v)) i 0 hn
-    ∙ getD-drop b (sets l a v) i 0
-    ∙ stored-off l a v (b + i) (elim o [ inl p ↦ inl (omega arith) | inr p ↦ inr (omega arith) ])
-    ∙ sym (getD-drop b l i 0)
-    ∙ sym (getD-take n (drop b l) i 0 hn))
+    bytes-agree (sets l a v) l b n (length-sets l a v)
+    (λ i h. stored-off l a v (b + i) (elim o [ inl p ↦ inl (omega arith) | inr p ↦ inr (omega arith) ]))

@@ -1,7 +1,7 @@
 -- The counter's history: what can happen to a board, and that no old request is ever answered again.
 -- Definitions and claims; the proofs are in proofs/History.antt. Assumes nothing.
 use mathlib.Core.Path.{_≡_}
-use mathlib.Core.Logic.{_↔_}
+use mathlib.Core.Logic.{_↔_, _⊎_}
 use mathlib.Core.Bool.{Bool, true, false, not, _&&_}
 use mathlib.Core.List.{List}
 use Prim.Native.Nat.{ℕ, suc, _≤_, _<_}
@@ -112,3 +112,11 @@ LaterIsLarger =
     (layout : List ℕ) (events : ℕ → Event) (memories : ℕ → List ℕ) (n : ℕ) → History layout events memories n
     → (i j : ℕ) (c d : List ℕ) → i < n → j < n
     → Accepted layout events memories i c → Accepted layout events memories j d → (i < j) ↔ (greater d c ≡ true)
+
+-- the counter never falls
+abbrev pub CounterRises : Type 0
+CounterRises =
+    (layout : List ℕ) (events : ℕ → Event) (memories : ℕ → List ℕ) (n : ℕ) → History layout events memories n
+    → (i j : ℕ) → i ≤ j → j ≤ n
+    → (counterAt layout events memories j ≡ counterAt layout events memories i)
+    ⊎ (greater (counterAt layout events memories j) (counterAt layout events memories i) ≡ true)

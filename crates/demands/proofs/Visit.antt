@@ -1,0 +1,270 @@
+-- A lawful visit to the attestation code passes the monitor, and attestation is such a visit. Assumes nothing.
+use mathlib.Core.Path.{_≡_, refl, sym, ap, _∙_}
+use mathlib.Core.Logic.{_⊎_, inl, inr}
+use mathlib.Core.Bool.{Bool, true, false, not, _&&_, _||_, and-false, or-true}
+use mathlib.Core.List.{List}
+use Prim.Native.Nat.{ℕ, zero, suc, _+_, _-_, _≤_, _<_}
+use native.Mathlib.Nat.{not-suc-le-zero}
+use native.Mathlib.Omega.{arith}
+use lib.Dec.{eqb, ltb}
+use lib.ListN.{length, getD, take, set}
+use lib.Seq.{sets, take-all}
+use borrow.Author.Tests.{eq-eqb, ltb-true, ltb-false, lt-ltb, le-ltb}
+use Rattle.refusal.specs.Bytes.{Bytes}
+use Rattle.refusal.specs.Choice.{pick}
+use Rattle.refusal.specs.Settled.{row-settled}
+use Rattle.refusal.specs.declared.Answer.the-variants.{Done}
+use Rattle.refusal.proofs.Tests.{cases, clash, neither}
+use Rattle.layout.specs.declared.Layout.{Layout}
+use Rattle.layout.specs.Regions.{within, outside}
+use Rattle.layout.specs.Layouts.{CR, KR, MR, CTR, region, layoutOf}
+use Rattle.layout.specs.Good.{Good}
+use Rattle.layout.proofs.Laws.{done-good, ends-within, elsewhere}
+use Rattle.layout.proofs.Placed.{Placed, placed}
+use Rattle.rules.specs.declared.Step.{Step}
+use Rattle.rules.specs.declared.Monitor.{Monitor}
+use Rattle.rules.specs.Rules.{cause, next}
+use Rattle.rules.proofs.Laws.{unbroken-passes}
+use Rattle.monitor.specs.Effects.{stored, storing, written}
+use Rattle.monitor.specs.Runs.{State, before}
+use Rattle.board.specs.Memory.{challenge, replyAt}
+use Rattle.board.specs.Attestation.{attestCheck, due, accepted}
+use Rattle.board.specs.Promises.{Attests}
+use Rattle.board.proofs.Stores.{sets-more}
+use Rattle.board.proofs.Laws.{length-due, length-challenge, Allowed, done-allowed}
+use Rattle.demands.specs.Traces.{crOrKr, remembers, causeAt}
+use Rattle.demands.specs.Visit as claim
+use Rattle.demands.specs.Visit.{Inside, Visit, Free, Plays, storeAt, storeByte, played}
+
+-- ---- steps that pass
+
+module _ (l : Layout) (m : Monitor) (s : Step) (free : m .held ≡ false) where
+  -- a step inside, from CR or at CR's lowest address
+  inside-passes : Inside l s → (within (l .cr) (m .last) ≡ false → s .pc ≡ l .cr .lo) → cause l m s ≡ 0
+  inside-passes i f =
+      let p = i .pc in
+      let d = i .idle in
+      unbroken-passes l m s (simp free) (record {
+        n1 = simp p;
+        n2 = simp (p, free, and-false);
+        n3 =
+            cases (within (l .cr) (m .last)) (λ e. simp (free, e))
+            (λ e. simp (free, e, p, eq-eqb (s .pc) (l .cr .lo) (f e)));
+        n4 = simp (i .calm, free);
+        n5 = simp p;
+        n6 =
+            cases (s .writes)
+            (λ e. simp (free, p, e) (one-of (within (l .xs) (s .cpu)) (within (l .mr) (s .cpu)) (within (l .ctr) (s .cpu)) (i .writes e)))
+            (λ e. simp (free, p, e));
+        n7 = simp d;
+        n8 = simp d;
+        n9 = simp (d, free);
+        n10 = simp (p, d, and-false);
+      })
+    where
+      one-of : (a b c : Bool) → (a || b || c) ≡ true → (not a && not b && not c) ≡ false
+      one-of true b c e = refl
+      one-of false true c e = refl
+      one-of false false c e = simp e
+
+  -- a step outside that accesses nothing, from CR's highest address
+  outside-passes : m .last ≡ l .cr .hi → within (l .cr) (s .pc) ≡ false → s .reads ≡ false → s .writes ≡ false → s .active ≡ false
+      → cause l m s ≡ 0
+  outside-passes e o r w d =
+      unbroken-passes l m s (simp free) (record {
+        n1 = simp (o, r);
+        n2 = simp (free, eq-eqb (m .last) (l .cr .hi) e, and-false);
+        n3 = simp (free, o, and-false);
+        n4 = simp (free, o, and-false);
+        n5 = simp (o, r, w);
+        n6 = simp (free, o);
+        n7 = simp d;
+        n8 = simp d;
+        n9 = simp (d, free);
+        n10 = simp (o, w, d, and-false);
+      })
+
+-- ---- a visit
+
+-- after a step that passes, the monitor is not held and remembers its PC
+module _ (l : Layout) (t : ℕ → Step) (x : State) (i : ℕ) (e : causeAt l t x i ≡ 0) where
+  unheld-after : remembers l t x (suc i) .held ≡ false
+  unfolding before next
+  unheld-after = simp e
+
+  last-after : remembers l t x (suc i) .last ≡ t i .pc
+  unfolding before next
+  last-after = refl
+
+pub visit-passes : claim.VisitPasses
+unfolding before
+visit-passes l t x n f v zero h = inside-passes l (x .monitor) (t 0) (f .unheld) (v .each 0 h) (λ e. v .enters)
+visit-passes l t x n f v (suc i) h =
+    let e = visit-passes l t x n f v i (omega arith) in
+    inside-passes l (remembers l t x (suc i)) (t (suc i)) (unheld-after l t x i e) (v .each (suc i) h)
+    (λ o. clash (within (l .cr) (t i .pc)) (v .each i (omega arith) .pc) (ap (within (l .cr)) (sym (last-after l t x i e)) ∙ o))
+
+pub leaves-freely : claim.LeavesFreely
+leaves-freely l t x zero f v o r w d = absurd (not-suc-le-zero (v .some))
+leaves-freely l t x (suc n) f v o r w d =
+    let e = visit-passes l t x (suc n) f v n (omega arith) in
+    let q : n ≡ suc n - 1 = omega arith in
+    outside-passes l (remembers l t x (suc n)) (t (suc n)) (unheld-after l t x n e)
+    (last-after l t x n e ∙ ap (λ (k : ℕ). t k .pc) q ∙ v .ends) o r w d
+
+-- ---- attestation as a visit
+
+-- a step that passes and writes outside CR and KR, the DMA idle, stores the CPU's byte
+step-stores : (l : Layout) (m : Monitor) (s : Step) (memory : List ℕ) → cause l m s ≡ 0 → s .active ≡ false → s .writes ≡ true
+    → crOrKr l (s .cpu) ≡ false → written l m s memory ≡ set memory (s .cpu) (s .cpudata)
+unfolding written storing stored
+step-stores l m s memory e d w o =
+    let p = neither (within (l .cr) (s .cpu)) (within (l .kr) (s .cpu)) o in
+    simp (e, d, w, p .0, p .1)
+
+-- an address of MR or CTR
+abbrev mrOrCtr : Layout → ℕ → Type 0
+mrOrCtr l a = (within (l .mr) a ≡ true) ⊎ (within (l .ctr) a ≡ true)
+
+off-rom : (b : List ℕ) → Good b → (a : ℕ) → mrOrCtr (layoutOf b) a → crOrKr (layoutOf b) a ≡ false
+unfolding layoutOf
+off-rom b g a (inl e) =
+    let c : within (region b CR) a ≡ false = elsewhere g MR CR (omega arith) (omega arith) (λ q. omega arith) refl refl a e in
+    let k : within (region b KR) a ≡ false = elsewhere g MR KR (omega arith) (omega arith) (λ q. omega arith) refl refl a e in
+    simp (c, k)
+off-rom b g a (inr e) =
+    let c : within (region b CR) a ≡ false = elsewhere g CTR CR (omega arith) (omega arith) (λ q. omega arith) refl refl a e in
+    let k : within (region b KR) a ≡ false = elsewhere g CTR KR (omega arith) (omega arith) (λ q. omega arith) refl refl a e in
+    simp (c, k)
+
+reply-address : (l : Layout) (i : ℕ) → i < 32 → storeAt l i ≡ replyAt l + i
+reply-address l i h = simp (lt-ltb i 32 h)
+
+counter-address : (l : Layout) (j : ℕ) → storeAt l (32 + j) ≡ l .ctr .lo + j
+counter-address l j =
+    let q : 32 + j - 32 ≡ j = omega arith in
+    simp (le-ltb (32 + j) 32 (omega arith), q)
+
+reply-byte : (l : Layout) (memory : List ℕ) (i : ℕ) → i < 32 → storeByte l memory i ≡ getD (due l memory) i 0
+reply-byte l memory i h = simp (lt-ltb i 32 h)
+
+counter-byte : (l : Layout) (memory : List ℕ) (j : ℕ) → storeByte l memory (32 + j) ≡ getD (challenge l memory) j 0
+counter-byte l memory j =
+    let q : 32 + j - 32 ≡ j = omega arith in
+    simp (le-ltb (32 + j) 32 (omega arith), q)
+
+store-in : (l : Layout) → Placed l → (i : ℕ) → i < 64 → mrOrCtr l (storeAt l i)
+store-in l p i h =
+    cases (ltb i 32)
+    (λ e.
+    let q = ltb-true i 32 e in
+    inl (simp e (ends-within (l .mr) (replyAt l + i) (omega arith) (omega (arith, p .mail)))))
+    (λ e.
+    let q = ltb-false i 32 e in
+    inr (simp e (ends-within (l .ctr) (l .ctr .lo + (i - 32)) (omega arith) (omega (arith, p .counter)))))
+
+-- an accepted call
+module _ (memory layout memory′ : List ℕ) (a : Attests memory layout memory′ Done) where
+  done : attestCheck memory layout ≡ Done
+  done = sym (row-settled Done (attestCheck memory layout) (a .answered))
+
+  allowed : Allowed memory layout
+  allowed = done-allowed memory layout done
+
+  good : Good layout
+  good = done-good layout (allowed .laid)
+
+  leaves : memory′ ≡ accepted (layoutOf layout) memory
+  leaves = a .memory-left ∙ simp done
+
+module _ (layout memory′ : List ℕ) (t : ℕ → Step) (x : State) (h : Bytes layout) (free : Free (layoutOf layout) x)
+    (a : Attests (x .memory) layout memory′ Done) (plays : Plays (layoutOf layout) (x .memory) t) where
+  abbrev l : Layout
+  l = layoutOf layout
+
+  abbrev memory : List ℕ
+  memory = x .memory
+
+  places : Placed l
+  places = placed layout h (allowed memory layout memory′ a .laid)
+
+  -- step i makes its store
+  each-stores : (i : ℕ) → i < 64 → before l t x (suc i) .memory ≡ set (before l t x i .memory) (storeAt l i) (storeByte l memory i)
+  unfolding before
+  each-stores i k =
+      step-stores l (remembers l t x i) (t i) (before l t x i .memory)
+      (visit-passes l t x 64 free (plays .visit) i k) (plays .visit .each i k .idle) (plays .writes i k)
+      (ap (crOrKr l) (plays .address i k) ∙ off-rom layout (good memory layout memory′ a) (storeAt l i) (store-in l places i k))
+      ∙ ap (λ (b : ℕ). set (before l t x i .memory) b (t i .cpudata)) (plays .address i k)
+      ∙ ap (set (before l t x i .memory) (storeAt l i)) (plays .byte i k)
+
+  reply-stored : (i : ℕ) → i ≤ 32 → before l t x i .memory ≡ sets memory (replyAt l) (take i (due l memory))
+  unfolding before
+  reply-stored zero k = refl
+  reply-stored (suc i) k =
+      each-stores i (omega arith)
+      ∙ simp (reply-stored i (omega arith), reply-address l i k, reply-byte l memory i k)
+      (sym (sets-more memory (replyAt l) (due l memory) i (omega (arith, length-due l memory))))
+
+  abbrev first : List ℕ
+  first = sets memory (replyAt l) (due l memory)
+
+  counter-stored : (j : ℕ) → j ≤ 32 → before l t x (32 + j) .memory ≡ sets first (l .ctr .lo) (take j (challenge l memory))
+  counter-stored zero k =
+      reply-stored 32 (omega arith) ∙ ap (sets memory (replyAt l)) (take-all 32 (due l memory) (omega (arith, length-due l memory)))
+  counter-stored (suc j) k =
+      let q : 32 + suc j ≡ suc (32 + j) = omega arith in
+      let n = length-challenge l places memory (allowed memory layout memory′ a .long) in
+      rw q (each-stores (32 + j) (omega arith)
+      ∙ simp (counter-stored j (omega arith), counter-address l j, counter-byte l memory j)
+      (sym (sets-more first (l .ctr .lo) (challenge l memory) j (omega arith))))
+
+  attests : before l t x 64 .memory ≡ memory′
+  unfolding accepted
+  attests =
+      let n = length-challenge l places memory (allowed memory layout memory′ a .long) in
+      counter-stored 32 (omega arith)
+      ∙ ap (sets first (l .ctr .lo)) (take-all 32 (challenge l memory) (omega arith))
+      ∙ sym (leaves memory layout memory′ a)
+
+pub visit-attests : claim.VisitAttests
+visit-attests = attests
+
+-- ---- there is such a visit
+
+module _ (b : List ℕ) (g : Good b) where
+  code-ends : (within (layoutOf b .cr) (layoutOf b .cr .lo) ≡ true) × (within (layoutOf b .cr) (layoutOf b .cr .hi) ≡ true)
+  unfolding layoutOf
+  code-ends =
+      let o = g .ordered CR (omega arith) in
+      let r = region b CR in
+      (ends-within r (r .lo) (omega arith) o, ends-within r (r .hi) o (omega arith))
+
+one-of-three : (a b c : Bool) → (b ≡ true) ⊎ (c ≡ true) → (a || b || c) ≡ true
+one-of-three a b c (inl e) = simp (e, or-true)
+one-of-three a b c (inr e) = simp (e, or-true)
+
+pub can-be-played : claim.CanBePlayed
+can-be-played memory layout memory′ h a =
+    let l = layoutOf layout in
+    let w = allowed memory layout memory′ a in
+    let p = placed layout h (w .laid) in
+    let c = code-ends layout (good memory layout memory′ a) in
+    record {
+      visit =
+          record {
+            some = omega arith;
+            enters = refl;
+            each = λ i k.
+                record {
+                  pc = cases (eqb i 63) (λ e. simp e (c .1)) (λ e. simp e (c .0));
+                  calm = refl;
+                  idle = refl;
+                  writes = λ e. one-of-three (within (l .xs) (storeAt l i)) (within (l .mr) (storeAt l i)) (within (l .ctr) (storeAt l i)) (store-in l p i k);
+                };
+            ends = refl;
+          };
+      writes = λ i k. refl;
+      address = λ i k. refl;
+      byte = λ i k. refl;
+    }

@@ -8,7 +8,7 @@ use native.Mathlib.Nat.{not-suc-le-zero}
 use native.Mathlib.Omega.{arith}
 use lib.Dec.{eqb, ltb}
 use lib.ListN.{length, getD, take, set}
-use lib.Seq.{sets, take-all}
+use lib.Seq.{sets, take-all, getD-set-same}
 use borrow.Author.Tests.{eq-eqb, ltb-true, ltb-false, lt-ltb, le-ltb}
 use Rattle.refusal.specs.Bytes.{Bytes}
 use Rattle.refusal.specs.Choice.{pick}
@@ -34,7 +34,7 @@ use Rattle.board.proofs.Stores.{sets-more}
 use Rattle.board.proofs.Laws.{length-due, length-challenge, Allowed, done-allowed}
 use Rattle.demands.specs.Traces.{crOrKr, remembers, causeAt}
 use Rattle.demands.specs.Visit as claim
-use Rattle.demands.specs.Visit.{Inside, Visit, Free, Plays, storeAt, storeByte, played}
+use Rattle.demands.specs.Visit.{Inside, Visit, Free, Plays, storeAt, storeByte, played, codeWrites}
 
 -- ---- steps that pass
 
@@ -268,3 +268,23 @@ can-be-played memory layout memory′ h a =
       address = λ i k. refl;
       byte = λ i k. refl;
     }
+
+-- ---- the attestation code's stores into CTR
+
+pub code-may-store : claim.CodeMayStore
+unfolding before
+code-may-store layout x a v g free c h =
+    let l = layoutOf layout in
+    let s = codeWrites l a v in
+    let i : Inside l s =
+    record {
+      pc = code-ends layout g .0;
+      calm = refl;
+      idle = refl;
+      writes = λ e. one-of-three (within (l .xs) a) (within (l .mr) a) (within (l .ctr) a) (inr c);
+    } in
+    let e = inside-passes l (x .monitor) s (free .unheld) i (λ o. refl) in (
+      e,
+      ap (λ (m : List ℕ). getD m a 0) (step-stores l (x .monitor) s (x .memory) e refl refl (off-rom layout g a (inr c)))
+          ∙ getD-set-same (x .memory) a v 0 h,
+    )

@@ -11,13 +11,14 @@ use Rattle.refusal.specs.Choice.{pick}
 use Rattle.refusal.specs.declared.Answer.the-variants.{Done}
 use Rattle.layout.specs.declared.Layout.{Layout}
 use Rattle.layout.specs.Layouts.{layoutOf}
+use Rattle.layout.specs.Good.{Good}
 use Rattle.layout.specs.Regions.{within}
 use Rattle.rules.specs.declared.Step.{Step}
 use Rattle.monitor.specs.Runs.{State, before}
 use Rattle.board.specs.Memory.{challenge, replyAt}
 use Rattle.board.specs.Attestation.{due}
 use Rattle.board.specs.Promises.{Attests}
-use Rattle.demands.specs.Traces.{causeAt}
+use Rattle.demands.specs.Traces.{causeAt, byteAt}
 
 -- ---- a lawful visit
 
@@ -94,3 +95,29 @@ abbrev pub CanBePlayed : Type 0
 CanBePlayed =
     (memory layout memory′ : List ℕ) → Bytes layout → Attests memory layout memory′ Done
     → Plays (layoutOf layout) memory (played (layoutOf layout) memory)
+
+-- ---- the attestation code's stores into CTR are its own affair
+
+-- one of its steps, at CR's lowest address: it writes v to a
+abbrev pub codeWrites : Layout → ℕ → ℕ → Step
+codeWrites l a v = record {
+  pc = l .cr .lo;
+  cpu = a;
+  dma = 0;
+  reads = false;
+  writes = true;
+  interrupt = false;
+  active = false;
+  stores = false;
+  cpudata = v;
+  dmadata = 0;
+}
+
+-- where a is in CTR, the monitor lets it pass, and v then stands there, whatever it is: rule 6 allows it.
+-- So a history of the counter has to say that no trace does this
+abbrev pub CodeMayStore : Type 0
+CodeMayStore =
+    (layout : List ℕ) (x : State) (a v : ℕ) → Good layout → Free (layoutOf layout) x
+    → within (layoutOf layout .ctr) a ≡ true → a < length (x .memory)
+    → (causeAt (layoutOf layout) (λ i. codeWrites (layoutOf layout) a v) x 0 ≡ 0)
+    × (byteAt (layoutOf layout) (λ i. codeWrites (layoutOf layout) a v) x 1 a ≡ v)

@@ -1,32 +1,35 @@
 -- A lawful visit to the attestation code passes the monitor, and attestation is such a visit. Assumes nothing.
 use mathlib.Core.Path.{_≡_, refl, sym, ap, _∙_}
-use mathlib.Core.Logic.{_⊎_, inl, inr}
+use mathlib.Core.Logic.{_≢_, _⊎_, inl, inr}
 use mathlib.Core.Bool.{Bool, true, false, not, _&&_, _||_, and-false, or-true}
 use mathlib.Core.List.{List}
-use Prim.Native.Nat.{ℕ, zero, suc, _+_, _-_, _≤_, _<_}
+use Prim.Native.Nat.{ℕ, zero, suc, _+_, _-_, _*_, _/_, _%_, _^_, _≤_, _<_}
 use native.Mathlib.Nat.{not-suc-le-zero}
 use native.Mathlib.Omega.{arith}
 use lib.Dec.{eqb, ltb}
-use lib.ListN.{length, getD, take, set}
-use lib.Seq.{sets, take-all, getD-set-same}
-use borrow.Author.Tests.{eq-eqb, ltb-true, ltb-false, lt-ltb, le-ltb}
+use lib.ListN.{length, getD, take, drop, set, length-append, length-drop}
+use lib.Seq.{sets, take-all, getD-set-same, drop-at, take-append-le, drop-append-le}
+use borrow.Author.Tests.{eqb-true, eqb-false, eq-eqb, ltb-true, ltb-false, lt-ltb, le-ltb}
 use Rattle.refusal.specs.Bytes.{Bytes}
 use Rattle.refusal.specs.Choice.{pick}
 use Rattle.refusal.specs.Settled.{row-settled}
 use Rattle.refusal.specs.declared.Answer.the-variants.{Done}
 use Rattle.refusal.proofs.Tests.{cases, clash, neither}
+use Rattle.refusal.proofs.First.{found-none}
 use Rattle.layout.specs.declared.Layout.{Layout}
 use Rattle.layout.specs.Regions.{within, outside}
-use Rattle.layout.specs.Layouts.{CR, KR, MR, CTR, region, layoutOf}
+use Rattle.layout.specs.Layouts.{CR, KR, MR, CTR, region, layoutOf, word}
 use Rattle.layout.specs.Good.{Good}
 use Rattle.layout.proofs.Laws.{done-good, ends-within, elsewhere}
 use Rattle.layout.proofs.Placed.{Placed, placed}
 use Rattle.rules.specs.declared.Step.{Step}
 use Rattle.rules.specs.declared.Monitor.{Monitor}
+use Rattle.rules.specs.Steps.{bit, stepOf, clean}
 use Rattle.rules.specs.Rules.{cause, next}
 use Rattle.rules.proofs.Laws.{unbroken-passes}
 use Rattle.monitor.specs.Effects.{stored, storing, written}
-use Rattle.monitor.specs.Runs.{State, before}
+use Rattle.monitor.specs.Runs.{State, stepSize, answerSize, count, stepBytes, before}
+use Rattle.monitor.specs.Promises.{mostSteps, unclean, traceCheck}
 use Rattle.board.specs.Memory.{challenge, replyAt}
 use Rattle.board.specs.Attestation.{attestCheck, due, accepted}
 use Rattle.board.specs.Promises.{Attests}
@@ -34,7 +37,7 @@ use Rattle.board.proofs.Stores.{sets-more}
 use Rattle.board.proofs.Laws.{length-due, length-challenge, Allowed, done-allowed}
 use Rattle.demands.specs.Traces.{crOrKr, remembers, causeAt}
 use Rattle.demands.specs.Visit as claim
-use Rattle.demands.specs.Visit.{Inside, Visit, Free, Plays, storeAt, storeByte, played, codeWrites}
+use Rattle.demands.specs.Visit.{Inside, Visit, Free, Plays, storeAt, storeByte, played, codeWrites, flags, encode, encoded}
 
 -- ---- steps that pass
 
@@ -288,3 +291,88 @@ code-may-store layout x a v g free c h =
       ap (λ (m : List ℕ). getD m a 0) (step-stores l (x .monitor) s (x .memory) e refl refl (off-rom layout g a (inr c)))
           ∙ getD-set-same (x .memory) a v 0 h,
     )
+
+-- ---- a step's bytes
+
+flag-most : (f : Bool) → pick {A = ℕ} f 1 0 ≤ 1
+flag-most true = omega arith
+flag-most false = omega arith
+
+flag-is : (f : Bool) → eqb (pick f 1 0) 1 ≡ f
+flag-is true = refl
+flag-is false = refl
+
+-- five digits of 0 and 1
+record Digits (a b c d e f : ℕ) : Type 0 where
+  d0 : f / 2 ^ 0 % 2 ≡ a
+  d1 : f / 2 ^ 1 % 2 ≡ b
+  d2 : f / 2 ^ 2 % 2 ≡ c
+  d3 : f / 2 ^ 3 % 2 ≡ d
+  d4 : f / 2 ^ 4 % 2 ≡ e
+  most : f < 32
+
+digits : (a b c d e : ℕ) → a ≤ 1 → b ≤ 1 → c ≤ 1 → d ≤ 1 → e ≤ 1 → Digits a b c d e (a + 2 * b + 4 * c + 8 * d + 16 * e)
+digits a b c d e ha hb hc hd he = record {
+  d0 = omega arith;
+  d1 = omega arith;
+  d2 = omega arith;
+  d3 = omega arith;
+  d4 = omega arith;
+  most = omega arith;
+}
+
+flag-digits : (s : Step)
+    → Digits (pick (s .reads) 1 0) (pick (s .writes) 1 0) (pick (s .interrupt) 1 0) (pick (s .active) 1 0) (pick (s .stores) 1 0) (flags s)
+flag-digits s =
+    digits (pick (s .reads) 1 0) (pick (s .writes) 1 0) (pick (s .interrupt) 1 0) (pick (s .active) 1 0) (pick (s .stores) 1 0)
+    (flag-most (s .reads)) (flag-most (s .writes)) (flag-most (s .interrupt)) (flag-most (s .active)) (flag-most (s .stores))
+
+word-of : (a : ℕ) → word (a % 256) (a / 256) ≡ a
+word-of a = omega arith
+
+decoded : (s : Step) → stepOf (encode s) ≡ s
+unfolding stepOf
+decoded s =
+    let d = flag-digits s in
+    let r : bit 0 (flags s) ≡ s .reads = ap (λ (n : ℕ). eqb n 1) (d .d0) ∙ flag-is (s .reads) in
+    let w : bit 1 (flags s) ≡ s .writes = ap (λ (n : ℕ). eqb n 1) (d .d1) ∙ flag-is (s .writes) in
+    let i : bit 2 (flags s) ≡ s .interrupt = ap (λ (n : ℕ). eqb n 1) (d .d2) ∙ flag-is (s .interrupt) in
+    let a : bit 3 (flags s) ≡ s .active = ap (λ (n : ℕ). eqb n 1) (d .d3) ∙ flag-is (s .active) in
+    let t : bit 4 (flags s) ≡ s .stores = ap (λ (n : ℕ). eqb n 1) (d .d4) ∙ flag-is (s .stores) in
+    simp (word-of (s .pc), word-of (s .cpu), word-of (s .dma), r, w, i, a, t)
+
+clean-encode : (s : Step) → clean (encode s) ≡ true
+clean-encode s = simp (lt-ltb (flags s) 32 (flag-digits s .most))
+
+-- ---- a trace's bytes
+
+length-encoded : (t : ℕ → Step) (n : ℕ) → length (encoded t n) ≡ stepSize * n
+unfolding encoded
+length-encoded t zero = refl
+length-encoded t (suc n) = omega (arith, length-append (encoded t n) (encode (t n)), length-encoded t n)
+
+encoded-bytes : (t : ℕ → Step) (n i : ℕ) → i < n → stepBytes (encoded t n) i ≡ encode (t i)
+unfolding encoded
+encoded-bytes t zero i h = absurd (not-suc-le-zero h)
+encoded-bytes t (suc n) i h =
+    let b = encoded t n in
+    let q = length-encoded t n in
+    cases (eqb i n)
+    (λ e. rw (eqb-true i n e) (ap (take stepSize) (drop-at b (encode (t n)) (stepSize * n) q)))
+    (λ e.
+    let g : i ≢ n = eqb-false i n e in
+    let p : stepSize * i ≤ length b = omega arith in
+    let w : stepSize ≤ length (drop (stepSize * i) b) = simp length-drop (omega arith) in
+    rw (drop-append-le, take-append-le) (encoded-bytes t n i (omega arith)))
+
+pub tells-steps : claim.TellsSteps
+tells-steps t n i h = ap stepOf (encoded-bytes t n i h) ∙ decoded (t i)
+
+encoded-fits : (t : ℕ → Step) (n room : ℕ) → n ≤ mostSteps → answerSize * n ≤ room → traceCheck (encoded t n) room ≡ Done
+unfolding traceCheck
+encoded-fits t n room h r =
+    let q = length-encoded t n in
+    let c : count (encoded t n) ≡ n = omega arith in
+    let w : length (encoded t n) % stepSize ≡ 0 = omega arith in
+    let u : (i : ℕ) → i < n → unclean (encoded t n) i ≡ false = λ i k. simp (encoded-bytes t n i k, clean-encode (t i)) in
+    simp (c, w, le-ltb mostSteps n h, le-ltb room (answerSize * n) r, found-none n (unclean (encoded t n)) u)

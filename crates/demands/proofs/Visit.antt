@@ -18,9 +18,11 @@ use Rattle.refusal.proofs.Tests.{cases, clash, neither}
 use Rattle.refusal.proofs.First.{found-none}
 use Rattle.layout.specs.declared.Layout.{Layout}
 use Rattle.layout.specs.Regions.{within, outside}
-use Rattle.layout.specs.Layouts.{CR, KR, MR, CTR, region, layoutOf, word}
+use Rattle.layout.specs.Layouts.{CR, KR, MR, CTR, region, layoutOf, layoutCheck, word}
+use Rattle.layout.specs.Calls.{callCheck}
 use Rattle.layout.specs.Good.{Good}
-use Rattle.layout.proofs.Laws.{done-good, ends-within, elsewhere}
+use Rattle.layout.proofs.Laws.{done-good, ends-within, elsewhere, zero-outside}
+use Rattle.layout.proofs.Calls.{call-rest}
 use Rattle.layout.proofs.Placed.{Placed, placed}
 use Rattle.rules.specs.declared.Step.{Step}
 use Rattle.rules.specs.declared.Monitor.{Monitor}
@@ -28,16 +30,21 @@ use Rattle.rules.specs.Steps.{bit, stepOf, clean}
 use Rattle.rules.specs.Rules.{cause, next}
 use Rattle.rules.proofs.Laws.{unbroken-passes}
 use Rattle.monitor.specs.Effects.{stored, storing, written}
-use Rattle.monitor.specs.Runs.{State, stepSize, answerSize, count, stepBytes, before}
-use Rattle.monitor.specs.Promises.{mostSteps, unclean, traceCheck}
+use Rattle.monitor.specs.declared.Traced.{Traced}
+use Rattle.monitor.specs.declared.Traced.the-variants as traced
+use Rattle.monitor.specs.Runs.{State, stepSize, answerSize, count, stepBytes, steps, begin, before, resetting}
+use Rattle.monitor.specs.Promises.{mostSteps, unclean, traceCheck, Traces}
+use Rattle.monitor.specs.Settled.{traced-row-settled}
 use Rattle.board.specs.Memory.{challenge, replyAt}
 use Rattle.board.specs.Attestation.{attestCheck, due, accepted}
 use Rattle.board.specs.Promises.{Attests}
 use Rattle.board.proofs.Stores.{sets-more}
 use Rattle.board.proofs.Laws.{length-due, length-challenge, Allowed, done-allowed}
-use Rattle.demands.specs.Traces.{crOrKr, remembers, causeAt}
+use Rattle.demands.specs.Traces.{crOrKr, remembers, causeAt, InParts}
 use Rattle.demands.specs.Visit as claim
-use Rattle.demands.specs.Visit.{Inside, Visit, Free, Plays, storeAt, storeByte, played, codeWrites, flags, encode, encoded}
+use Rattle.demands.specs.Visit.{Inside, Visit, Free, Plays, storeAt, storeByte, played, codeWrites, flags, encode, encoded, away, scripted, script}
+use Rattle.demands.proofs.Runs.{Alike, alike, in-parts}
+use Rattle.demands.proofs.Traces.{release}
 
 -- ---- steps that pass
 
@@ -376,3 +383,129 @@ encoded-fits t n room h r =
     let w : length (encoded t n) % stepSize ≡ 0 = omega arith in
     let u : (i : ℕ) → i < n → unclean (encoded t n) i ≡ false = λ i k. simp (encoded-bytes t n i k, clean-encode (t i)) in
     simp (c, w, le-ltb mostSteps n h, le-ltb room (answerSize * n) r, found-none n (unclean (encoded t n)) u)
+
+-- ---- attestation as a trace
+
+-- steps without a cause do not count as resets
+none-reset : (l : Layout) (t : ℕ → Step) (x : State) (n : ℕ) → ((i : ℕ) → i < n → causeAt l t x i ≡ 0) → resetting l t x n ≡ 0
+unfolding resetting
+none-reset l t x zero f = refl
+none-reset l t x (suc n) f = simp (f n (omega arith), none-reset l t x n (λ i h. f i (omega arith)))
+
+-- a step that writes nothing stores nothing
+keeps-memory : (l : Layout) (m : Monitor) (s : Step) (memory : List ℕ) → cause l m s ≡ 0 → s .active ≡ false → s .writes ≡ false
+    → written l m s memory ≡ memory
+unfolding written storing stored
+keeps-memory l m s memory e d w = simp (e, d, w)
+
+plays-alike : (l : Layout) (memory : List ℕ) (t u : ℕ → Step) → ((i : ℕ) → i < 64 → t i ≡ u i) → Plays l memory u → Plays l memory t
+plays-alike l memory t u f p =
+    record {
+      visit =
+          record {
+            some = omega arith;
+            enters = ap (λ (s : Step). s .pc) (f 0 (omega arith)) ∙ p .visit .enters;
+            each = λ i k. rw (f i k) (p .visit .each i k);
+            ends = ap (λ (s : Step). s .pc) (f 63 (omega arith)) ∙ p .visit .ends;
+          };
+      writes = λ i k. ap (λ (s : Step). s .writes) (f i k) ∙ p .writes i k;
+      address = λ i k. ap (λ (s : Step). s .cpu) (f i k) ∙ p .address i k;
+      byte = λ i k. ap (λ (s : Step). s .cpudata) (f i k) ∙ p .byte i k;
+    }
+
+-- what stands after the first step, with PC 0
+abbrev released : List ℕ → State
+released memory = record { monitor = record { held = false; last = 0 }; memory = memory }
+
+module _ (memory layout memory′ : List ℕ) (h : Bytes layout) (a : Attests memory layout memory′ Done) where
+  abbrev ly : Layout
+  ly = layoutOf layout
+
+  abbrev all : ℕ → Step
+  all = scripted ly memory
+
+  abbrev rest : ℕ → Step
+  rest i = all (suc i)
+
+  laid : layoutCheck layout ≡ Done
+  laid = allowed memory layout memory′ a .laid
+
+  released-first : causeAt ly all (begin memory) 0 ≡ 0
+  unfolding before
+  released-first = release ly all (begin memory) 0 refl refl refl refl refl
+
+  after-first : before ly all (begin memory) 1 ≡ released memory
+  unfolding before next
+  after-first =
+      ap (λ (c : ℕ). record { monitor = record { held = not (eqb c 0); last = 0 }; memory = written ly (begin memory .monitor) away memory }) released-first
+      ∙ ap (λ (m : List ℕ). released m) (keeps-memory ly (begin memory .monitor) away memory released-first refl refl)
+
+  free-first : Free ly (released memory)
+  free-first = record { unheld = refl; outside = zero-outside layout laid }
+
+  plays-rest : Plays ly memory rest
+  plays-rest =
+      plays-alike ly memory rest (played ly memory) (λ i k. simp (lt-ltb i 64 k)) (can-be-played memory layout memory′ h a)
+
+  -- no step of the rest resets
+  rest-passes : (i : ℕ) → i < 65 → causeAt ly rest (released memory) i ≡ 0
+  rest-passes i k =
+      cases (ltb i 64)
+      (λ e. visit-passes ly rest (released memory) 64 free-first (plays-rest .visit) i (ltb-true i 64 e))
+      (λ e.
+      let q : i ≡ 64 = omega (arith, ltb-false i 64 e) in
+      rw q (leaves-freely ly rest (released memory) 64 free-first (plays-rest .visit) (zero-outside layout laid) refl refl refl))
+
+  rest-leaves : before ly rest (released memory) 65 .memory ≡ memory′
+  unfolding before
+  rest-leaves =
+      keeps-memory ly (remembers ly rest (released memory) 64) away (before ly rest (released memory) 64 .memory)
+      (rest-passes 64 (omega arith)) refl refl
+      ∙ visit-attests layout memory′ rest (released memory) h free-first a plays-rest
+
+  in-two : InParts ly all all rest (begin memory) 1 65
+  in-two = in-parts ly all all rest (begin memory) 1 65 (λ i k. refl) (λ i k. ap all (let q : 1 + i ≡ suc i = omega arith in q))
+
+  all-left : before ly all (begin memory) 66 .memory ≡ memory′
+  all-left = ap (λ (x : State). x .memory) (in-two .left ∙ ap (λ (x : State). before ly rest x 65) after-first) ∙ rest-leaves
+
+  all-counted : resetting ly all (begin memory) 66 ≡ 0
+  all-counted =
+      in-two .counted
+      ∙ simp (
+        none-reset ly all (begin memory) 1 (λ i k. let q : i ≡ 0 = omega arith in rw q released-first),
+        after-first,
+        none-reset ly rest (released memory) 65 rest-passes,
+      )
+
+  module _ (room memory″ room′ : List ℕ) (r : Traced) (c : Traces memory layout (script ly memory) room memory″ room′ r) (k : 264 ≤ length room) where
+    abbrev b : List ℕ
+    b = script ly memory
+
+    same : Alike ly (steps b) all (begin memory) 66
+    same = alike ly (steps b) all (begin memory) 66 (tells-steps all 66)
+
+    counts : count b ≡ 66
+    counts = omega (arith, length-encoded all 66)
+
+    checked : callCheck memory layout (traceCheck b (length room)) ≡ Done
+    checked =
+        call-rest memory layout (traceCheck b (length room)) (allowed memory layout memory′ a .long) laid
+        ∙ encoded-fits all 66 (length room) (omega arith) k
+
+    judged : r ≡ traced.Judged (record { steps = 66; resets = 0 })
+    judged =
+        traced-row-settled r (traced.Judged (record { steps = 66; resets = 0 }))
+        (c .answered ∙ simp checked (simp (counts, same .counted, all-counted)))
+
+    left : memory″ ≡ memory′
+    left =
+        c .memory-left
+        ∙ simp checked
+        (ap (λ (n : ℕ). before ly (steps b) (begin memory) n .memory) counts
+        ∙ ap (λ (x : State). x .memory) (same .left)
+        ∙ all-left)
+
+pub trace-attests : claim.TraceAttests
+trace-attests memory layout memory′ room memory″ room′ r h a c k =
+    (judged memory layout memory′ h a room memory″ room′ r c k, left memory layout memory′ h a room memory″ room′ r c k)

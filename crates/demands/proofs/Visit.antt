@@ -2,13 +2,13 @@
 use mathlib.Core.Path.{_≡_, refl, sym, ap, _∙_}
 use mathlib.Core.Logic.{_≢_, _⊎_, inl, inr}
 use mathlib.Core.Bool.{Bool, true, false, not, _&&_, _||_, and-false, or-true}
-use mathlib.Core.List.{List}
+use mathlib.Core.List.{List, [], _∷_, _++_}
 use Prim.Native.Nat.{ℕ, zero, suc, _+_, _-_, _*_, _/_, _%_, _^_, _≤_, _<_}
 use native.Mathlib.Nat.{not-suc-le-zero}
 use native.Mathlib.Omega.{arith}
 use lib.Dec.{eqb, ltb}
-use lib.ListN.{length, getD, take, drop, set, length-append, length-drop}
-use lib.Seq.{sets, take-all, getD-set-same, drop-at, take-append-le, drop-append-le}
+use lib.ListN.{length, getD, take, drop, set, replicate, length-append, length-drop}
+use lib.Seq.{sets, take-all, getD-set-same, getD-take, getD-drop, drop-at, take-append-le, drop-append-le}
 use borrow.Author.Tests.{eqb-true, eqb-false, eq-eqb, ltb-true, ltb-false, lt-ltb, le-ltb}
 use Rattle.refusal.specs.Bytes.{Bytes}
 use Rattle.refusal.specs.Choice.{pick}
@@ -17,9 +17,9 @@ use Rattle.refusal.specs.declared.Answer.the-variants.{Done}
 use Rattle.refusal.proofs.Tests.{cases, clash, neither}
 use Rattle.refusal.proofs.First.{found-none}
 use Rattle.layout.specs.declared.Layout.{Layout}
-use Rattle.layout.specs.Regions.{within, outside}
+use Rattle.layout.specs.Regions.{within}
 use Rattle.layout.specs.Layouts.{CR, KR, MR, CTR, region, layoutOf, layoutCheck, word}
-use Rattle.layout.specs.Calls.{callCheck}
+use Rattle.layout.specs.Calls.{memoryBytes, callCheck}
 use Rattle.layout.specs.Good.{Good}
 use Rattle.layout.proofs.Laws.{done-good, ends-within, elsewhere, zero-outside}
 use Rattle.layout.proofs.Calls.{call-rest}
@@ -27,7 +27,7 @@ use Rattle.layout.proofs.Placed.{Placed, placed}
 use Rattle.rules.specs.declared.Step.{Step}
 use Rattle.rules.specs.declared.Monitor.{Monitor}
 use Rattle.rules.specs.Steps.{bit, stepOf, clean}
-use Rattle.rules.specs.Rules.{cause, next}
+use Rattle.rules.specs.Rules.{cause, start, next}
 use Rattle.rules.proofs.Laws.{unbroken-passes}
 use Rattle.monitor.specs.Effects.{stored, storing, written}
 use Rattle.monitor.specs.declared.Traced.{Traced}
@@ -42,7 +42,8 @@ use Rattle.board.proofs.Stores.{sets-more}
 use Rattle.board.proofs.Laws.{length-due, length-challenge, Allowed, done-allowed}
 use Rattle.demands.specs.Traces.{crOrKr, remembers, causeAt, InParts}
 use Rattle.demands.specs.Visit as claim
-use Rattle.demands.specs.Visit.{Inside, Visit, Free, Plays, storeAt, storeByte, played, codeWrites, flags, encode, encoded, away, scripted, script}
+use Rattle.demands.specs.Visit.{Inside, Free, Plays, storeAt, storeByte, played, codeWrites}
+use Rattle.demands.specs.Visit.{flags, encode, encoded, away, scripted, script}
 use Rattle.demands.proofs.Runs.{Alike, alike, in-parts}
 use Rattle.demands.proofs.Traces.{release}
 
@@ -250,9 +251,10 @@ module _ (b : List ℕ) (g : Good b) where
       let r = region b CR in
       (ends-within r (r .lo) (omega arith) o, ends-within r (r .hi) o (omega arith))
 
-one-of-three : (a b c : Bool) → (b ≡ true) ⊎ (c ≡ true) → (a || b || c) ≡ true
-one-of-three a b c (inl e) = simp (e, or-true)
-one-of-three a b c (inr e) = simp (e, or-true)
+-- rule 6 allows a write there
+allows : (l : Layout) (a : ℕ) → mrOrCtr l a → (within (l .xs) a || within (l .mr) a || within (l .ctr) a) ≡ true
+allows l a (inl e) = simp (e, or-true)
+allows l a (inr e) = simp (e, or-true)
 
 pub can-be-played : claim.CanBePlayed
 can-be-played memory layout memory′ h a =
@@ -270,7 +272,7 @@ can-be-played memory layout memory′ h a =
                   pc = cases (eqb i 63) (λ e. simp e (c .1)) (λ e. simp e (c .0));
                   calm = refl;
                   idle = refl;
-                  writes = λ e. one-of-three (within (l .xs) (storeAt l i)) (within (l .mr) (storeAt l i)) (within (l .ctr) (storeAt l i)) (store-in l p i k);
+                  writes = λ e. allows l (storeAt l i) (store-in l p i k);
                 };
             ends = refl;
           };
@@ -291,7 +293,7 @@ code-may-store layout x a v g free c h =
       pc = code-ends layout g .0;
       calm = refl;
       idle = refl;
-      writes = λ e. one-of-three (within (l .xs) a) (within (l .mr) a) (within (l .ctr) a) (inr c);
+      writes = λ e. allows l a (inr c);
     } in
     let e = inside-passes l (x .monitor) s (free .unheld) i (λ o. refl) in (
       e,
@@ -436,9 +438,7 @@ module _ (memory layout memory′ : List ℕ) (h : Bytes layout) (a : Attests me
 
   after-first : before ly all (begin memory) 1 ≡ released memory
   unfolding before next
-  after-first =
-      ap (λ (c : ℕ). record { monitor = record { held = not (eqb c 0); last = 0 }; memory = written ly (begin memory .monitor) away memory }) released-first
-      ∙ ap (λ (m : List ℕ). released m) (keeps-memory ly (begin memory .monitor) away memory released-first refl refl)
+  after-first = simp (released-first, keeps-memory ly start away memory released-first refl refl)
 
   free-first : Free ly (released memory)
   free-first = record { unheld = refl; outside = zero-outside layout laid }
@@ -478,7 +478,8 @@ module _ (memory layout memory′ : List ℕ) (h : Bytes layout) (a : Attests me
         none-reset ly rest (released memory) 65 rest-passes,
       )
 
-  module _ (room memory″ room′ : List ℕ) (r : Traced) (c : Traces memory layout (script ly memory) room memory″ room′ r) (k : 264 ≤ length room) where
+  module _ (room memory″ room′ : List ℕ) (r : Traced)
+      (c : Traces memory layout (script ly memory) room memory″ room′ r) (k : 264 ≤ length room) where
     abbrev b : List ℕ
     b = script ly memory
 
@@ -509,3 +510,108 @@ module _ (memory layout memory′ : List ℕ) (h : Bytes layout) (a : Attests me
 pub trace-attests : claim.TraceAttests
 trace-attests memory layout memory′ room memory″ room′ r h a c k =
     (judged memory layout memory′ h a room memory″ room′ r c k, left memory layout memory′ h a room memory″ room′ r c k)
+
+-- ---- the trace is bytes
+
+bytes-cons : (x : ℕ) (v : List ℕ) → x < 256 → Bytes v → Bytes (x ∷ v)
+bytes-cons x v h k zero = h
+bytes-cons x v h k (suc i) = k i
+
+bytes-append : (v w : List ℕ) → Bytes v → Bytes w → Bytes (v ++ w)
+bytes-append [] w h k i = k i
+bytes-append (x ∷ v) w h k zero = h 0
+bytes-append (x ∷ v) w h k (suc i) = bytes-append v w (λ j. h (suc j)) k i
+
+-- a step of 16-bit addresses and of bytes
+record Small (s : Step) : Type 0 where
+  pc : s .pc < memoryBytes
+  cpu : s .cpu < memoryBytes
+  dma : s .dma < memoryBytes
+  cpudata : s .cpudata < 256
+  dmadata : s .dmadata < 256
+
+halves : (n : ℕ) (v : List ℕ) → n < memoryBytes → Bytes v → Bytes (n % 256 ∷ n / 256 ∷ v)
+halves n v h k = bytes-cons (n % 256) (n / 256 ∷ v) (omega arith) (bytes-cons (n / 256) v (omega arith) k)
+
+zeros : (n : ℕ) → Bytes (replicate n 0)
+zeros zero i = omega arith
+zeros (suc n) i = bytes-cons 0 (replicate n 0) (omega arith) (zeros n) i
+
+bytes-encode : (s : Step) → Small s → Bytes (encode s)
+bytes-encode s h =
+    let f = flag-digits s .most in
+    let z : List ℕ = replicate 3 0 in
+    let tail : List ℕ = flags s ∷ s .cpudata ∷ s .dmadata ∷ z in
+    let dma : List ℕ = s .dma % 256 ∷ s .dma / 256 ∷ tail in
+    let cpu : List ℕ = s .cpu % 256 ∷ s .cpu / 256 ∷ dma in
+    halves (s .pc) cpu (h .pc)
+    (halves (s .cpu) dma (h .cpu)
+    (halves (s .dma) tail (h .dma)
+    (bytes-cons (flags s) (s .cpudata ∷ s .dmadata ∷ z) (omega arith)
+    (bytes-cons (s .cpudata) (s .dmadata ∷ z) (h .cpudata) (bytes-cons (s .dmadata) z (h .dmadata) (zeros 3))))))
+
+bytes-encoded : (t : ℕ → Step) (n : ℕ) → ((i : ℕ) → i < n → Small (t i)) → Bytes (encoded t n)
+unfolding encoded
+bytes-encoded t zero f i = omega arith
+bytes-encoded t (suc n) f i =
+    bytes-append (encoded t n) (encode (t n)) (bytes-encoded t n (λ j h. f j (omega arith))) (bytes-encode (t n) (f n (omega arith))) i
+
+code-small : (b : List ℕ) → Bytes b → (layoutOf b .cr .lo < memoryBytes) × (layoutOf b .cr .hi < memoryBytes)
+unfolding layoutOf
+code-small b h =
+    let p = h 0 in
+    let q = h 1 in
+    let r = h 2 in
+    let s = h 3 in
+    (omega arith, omega arith)
+
+small-pick : (t : Bool) (a b n : ℕ) → (t ≡ true → a < n) → (t ≡ false → b < n) → pick t a b < n
+small-pick true a b n f g = f refl
+small-pick false a b n f g = g refl
+
+away-small : Small away
+away-small = record { pc = omega arith; cpu = omega arith; dma = omega arith; cpudata = omega arith; dmadata = omega arith }
+
+-- an accepted call's addresses and bytes are small
+module _ (memory layout memory′ : List ℕ) (h : Bytes layout) (k : Bytes memory) (d : Bytes (due (layoutOf layout) memory))
+    (a : Attests memory layout memory′ Done) where
+  abbrev lb : Layout
+  lb = layoutOf layout
+
+  lies : Placed lb
+  lies = placed layout h (allowed memory layout memory′ a .laid)
+
+  address : (i : ℕ) → i < 64 → storeAt lb i < memoryBytes
+  address i e =
+      small-pick (ltb i 32) (replyAt lb + i) (lb .ctr .lo + (i - 32)) memoryBytes
+      (λ t. omega (arith, ltb-true i 32 t, lies .mail-in)) (λ t. omega (arith, ltb-false i 32 t, lies .counter-in))
+
+  byte : (i : ℕ) → i < 64 → storeByte lb memory i < 256
+  byte i e =
+      small-pick (ltb i 32) (getD (due lb memory) i 0) (getD (challenge lb memory) (i - 32) 0) 256 (λ t. d i)
+      (λ t.
+      let g = ltb-false i 32 t in
+      let q = getD-take 32 (drop (lb .mr .lo) memory) (i - 32) 0 (omega arith) ∙ getD-drop (lb .mr .lo) memory (i - 32) 0 in
+      rw q (k (lb .mr .lo + (i - 32))))
+
+  each : (i : ℕ) → i < 66 → Small (scripted lb memory i)
+  each zero e = away-small
+  each (suc i) e =
+      cases (ltb i 64)
+      (λ t.
+      let g = ltb-true i 64 t in
+      simp t (record {
+        pc =
+            small-pick (eqb i 63) (lb .cr .hi) (lb .cr .lo) memoryBytes (λ u. code-small layout h .1) (λ u. code-small layout h .0);
+        cpu = address i g;
+        dma = omega arith;
+        cpudata = byte i g;
+        dmadata = omega arith;
+      }))
+      (λ t. simp t away-small)
+
+  script-small : Bytes (script lb memory)
+  script-small = bytes-encoded (scripted lb memory) 66 each
+
+pub script-bytes : claim.ScriptBytes
+script-bytes = script-small

@@ -99,7 +99,7 @@ CanBePlayed =
     (memory layout memory′ : List ℕ) → Bytes layout → Attests memory layout memory′ Done
     → Plays (layoutOf layout) memory (played (layoutOf layout) memory)
 
--- ---- the attestation code's stores into CTR are its own affair
+-- ---- any other store of the attestation code into CTR
 
 -- one of its steps, at CR's lowest address: it writes v to a
 abbrev pub codeWrites : Layout → ℕ → ℕ → Step
@@ -169,13 +169,13 @@ scripted l memory (suc i) = pick (ltb i 64) (played l memory i) away
 abbrev pub script : Layout → List ℕ → List ℕ
 script l memory = encoded (scripted l memory) 66
 
--- for every accepted call, this trace is bytes if the reply is, and judged with room for its answers it resets at no step and leaves
--- the memory that `attest` leaves
+-- for every accepted call, this trace is bytes if the reply is
 abbrev pub ScriptBytes : Type 0
 ScriptBytes =
     (memory layout memory′ : List ℕ) → Bytes layout → Bytes memory → Bytes (due (layoutOf layout) memory)
     → Attests memory layout memory′ Done → Bytes (script (layoutOf layout) memory)
 
+-- and a call of `trace` with it and room for its answers is not refused, resets at no step and leaves the memory that `attest` leaves
 abbrev pub TraceAttests : Type 0
 TraceAttests =
     (memory layout memory′ room memory″ room′ : List ℕ) (r : Traced) → Bytes layout → Attests memory layout memory′ Done

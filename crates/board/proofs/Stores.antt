@@ -2,7 +2,8 @@
 use mathlib.Core.Path.{_≡_, refl, sym, ap, subst, _∙_}
 use mathlib.Core.Logic.{_≢_, _⊎_, inl, inr}
 use mathlib.Core.List.{List, [], _∷_, _++_, append-assoc}
-use Prim.Native.Nat.{ℕ, suc, _+_, _≤_, _<_}
+use Prim.Native.Nat.{ℕ, zero, suc, _+_, _≤_, _<_}
+use native.Mathlib.Nat.{add-zero, not-suc-le-zero, le-of-suc-le-suc}
 use native.Mathlib.Omega.{arith}
 use lib.ListN.{length, getD, take, drop, set, length-take, length-drop}
 use lib.Seq.{sets, length-sets, sets-eq, getD-set-other, length-take-le, take-at, drop-at, getD-take, getD-drop, ext-getD}
@@ -11,6 +12,15 @@ use Rattle.board.specs.Memory.{bytesAt}
 -- address k is not among n addresses from a on
 abbrev pub Off : ℕ → ℕ → ℕ → Type 0
 Off a n k = (k < a) ⊎ (a + n ≤ k)
+
+-- one byte more
+pub sets-more : (l : List ℕ) (a : ℕ) (v : List ℕ) (i : ℕ) → i < length v
+    → sets l a (take (suc i) v) ≡ set (sets l a (take i v)) (a + i) (getD v i 0)
+sets-more l a [] i h = absurd (not-suc-le-zero h)
+sets-more l a (x ∷ v) zero h = rw add-zero refl
+sets-more l a (x ∷ v) (suc i) h =
+    let e : a + suc i ≡ suc a + i = omega arith in
+    rw e (sets-more (set l a x) (suc a) v i (le-of-suc-le-suc h))
 
 -- what is stored is read again
 pub stored-there : (l : List ℕ) (a n : ℕ) (v : List ℕ) → length v ≡ n → a + n ≤ length l → bytesAt a n (sets l a v) ≡ v

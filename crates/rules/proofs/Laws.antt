@@ -2,7 +2,7 @@
 use mathlib.Core.Path.{_≡_, refl, ap, _∙_}
 use mathlib.Core.Logic.{_≢_}
 use mathlib.Core.Bool.{Bool, true, false}
-use Prim.Native.Nat.{ℕ, _<_}
+use Prim.Native.Nat.{ℕ, zero, suc, _<_}
 use native.Mathlib.Omega.{arith}
 use lib.Dec.{eqb, ltb}
 use borrow.Author.Tests.{eqb-true, eqb-false, ltb-false, lt-ltb, not-true, not-false}
@@ -61,6 +61,37 @@ pub quiet-passes : (l : Layout) (m : Monitor) (s : Step) → rule15 m s ≡ fals
     → ((k : ℕ) → k < 11 → numbered (broken l m s) k ≡ false) → cause l m s ≡ 0
 unfolding cause
 quiet-passes l m s e f = simp (e, quiet-lowest (broken l m s) f)
+
+-- none of the ten that are tried applies
+pub record Unbroken (l : Layout) (m : Monitor) (s : Step) : Type 0 where
+  pub n1 : broken l m s .r1 ≡ false
+  pub n2 : broken l m s .r2 ≡ false
+  pub n3 : broken l m s .r3 ≡ false
+  pub n4 : broken l m s .r4 ≡ false
+  pub n5 : broken l m s .r5 ≡ false
+  pub n6 : broken l m s .r6 ≡ false
+  pub n7 : broken l m s .r7 ≡ false
+  pub n8 : broken l m s .r8 ≡ false
+  pub n9 : broken l m s .r9 ≡ false
+  pub n10 : broken l m s .r10 ≡ false
+
+unbroken-quiet : (l : Layout) (m : Monitor) (s : Step) → Unbroken l m s → (k : ℕ) → numbered (broken l m s) k ≡ false
+unbroken-quiet l m s u zero = refl
+unbroken-quiet l m s u (suc zero) = u .n1
+unbroken-quiet l m s u (suc (suc zero)) = u .n2
+unbroken-quiet l m s u (suc (suc (suc zero))) = u .n3
+unbroken-quiet l m s u (suc (suc (suc (suc zero)))) = u .n4
+unbroken-quiet l m s u (suc (suc (suc (suc (suc zero))))) = u .n5
+unbroken-quiet l m s u (suc (suc (suc (suc (suc (suc zero)))))) = u .n6
+unbroken-quiet l m s u (suc (suc (suc (suc (suc (suc (suc zero))))))) = u .n7
+unbroken-quiet l m s u (suc (suc (suc (suc (suc (suc (suc (suc zero)))))))) = u .n8
+unbroken-quiet l m s u (suc (suc (suc (suc (suc (suc (suc (suc (suc zero))))))))) = u .n9
+unbroken-quiet l m s u (suc (suc (suc (suc (suc (suc (suc (suc (suc (suc zero)))))))))) = u .n10
+unbroken-quiet l m s u (suc (suc (suc (suc (suc (suc (suc (suc (suc (suc (suc k))))))))))) = refl
+
+-- then a step that is not held away from PC 0 has no cause
+pub unbroken-passes : (l : Layout) (m : Monitor) (s : Step) → rule15 m s ≡ false → Unbroken l m s → cause l m s ≡ 0
+unbroken-passes l m s e u = quiet-passes l m s e (λ k h. unbroken-quiet l m s u k)
 
 -- the cause of a step that is not held away from PC 0 is the lowest number that applies
 pub cause-lowest : (l : Layout) (m : Monitor) (s : Step) (k : ℕ) → rule15 m s ≡ false → k < 11

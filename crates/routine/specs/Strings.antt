@@ -6,18 +6,18 @@ use lib.Dec.{eqb, ltb}
 use lib.ListN.{length}
 use Rattle.refusal.specs.Choice.{pick}
 
--- a is greater than b, the first byte heaviest; of two strings one of which begins with the other, the longer is greater
-unfoldable pub greater : List ℕ → List ℕ → Bool
-greater [] b = false
-greater (x ∷ a) [] = true
-greater (x ∷ a) (y ∷ b) = pick (eqb x y) (greater a b) (ltb y x)
-
 -- a and b are the same string
 unfoldable pub same : List ℕ → List ℕ → Bool
 same [] [] = true
 same [] (y ∷ b) = false
 same (x ∷ a) [] = false
 same (x ∷ a) (y ∷ b) = eqb x y && same a b
+
+-- a is greater than b, the first byte heaviest; of two strings one of which begins with the other, the longer is greater
+unfoldable pub greater : List ℕ → List ℕ → Bool
+greater [] b = false
+greater (x ∷ a) [] = true
+greater (x ∷ a) (y ∷ b) = pick (eqb x y) (greater a b) (ltb y x)
 
 -- the number that a string of bytes stands for, the first byte heaviest
 unfoldable pub number : List ℕ → ℕ

@@ -30,10 +30,10 @@ pub fn equal(a: &[u8], b: &[u8]) -> bool
         return false;
     }
     let mut differing = 0u8;
-    let mut i = 0;
-    while i < a.len() {
-        differing = differing | (a[i] ^ b[i]);
-        i += 1;
+    let mut at = 0;
+    while at < a.len() {
+        differing = differing | (a[at] ^ b[at]);
+        at += 1;
     }
     differing == 0
 }

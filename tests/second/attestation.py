@@ -35,14 +35,14 @@ def weight(string: bytes) -> int:
     return int.from_bytes(string, "big")
 
 
-def reply_of(key: bytes, token_: bytes, region: bytes) -> bytes:
-    """Step 3's reply, by way of the token."""
-    one_time_key = mac(key, token_)
+def reply_of(key: bytes, made: bytes, region: bytes) -> bytes:
+    """Step 3's reply, where made is the token T."""
+    one_time_key = mac(key, made)
     return mac(one_time_key, region)
 
 
 def attest(memory: bytearray, layout: bytes) -> Union[Accepted, Refusal]:
-    """The board's call: the reply is stored and CTR becomes the challenge, or the first of the refusals 1 to 6, 10 and 11."""
+    """The board's call: the reply is stored and CTR becomes the challenge, or the first of the refusals 1 to 6, 10, 11."""
     if len(memory) != board.MEMORY_BYTES:
         return Refusal(1)
     regions = board.check_layout(layout)
@@ -53,10 +53,10 @@ def attest(memory: bytearray, layout: bytes) -> Union[Accepted, Refusal]:
     challenge, received = (bytes(memory[a] for a in room) for room in (challenge_room, token_room))
     if not weight(challenge) > weight(counter):
         return Refusal(10)
-    expected = mac(key, challenge)
-    if received != expected:
+    made = mac(key, challenge)
+    if received != made:
         return Refusal(11)
-    reply = reply_of(key, expected, attested)
+    reply = reply_of(key, made, attested)
     for room, string in ((reply_room, reply), (regions.ctr, challenge)):
         for address, byte in zip(room, string):
             memory[address] = byte

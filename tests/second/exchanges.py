@@ -1,5 +1,5 @@
-"""Exchanges of a board and a station, worked out by hand, under the page's layout: KR from 6A00, the challenge at 0230, the
-token at 0250, the reply at 0270, CTR from 0300, AR from E000 to FFFF.
+"""Exchanges of a board and a station, worked out by hand: KR is from 6A00, the challenge at 0230, the token at 0250, the reply
+at 0270, CTR from 0300.
 """
 from __future__ import annotations
 
@@ -11,6 +11,9 @@ import board
 import page
 from attestation import Accepted, attest, check, token
 from refusal import Refusal
+
+# The page's layout, but with bytes of MR behind the reply, to 02CF, and bytes behind AR, which is E100 to EEFF.
+LAYOUT = bytes.fromhex("00a0ffa0 006a3f6a 0004ff07 3002cf02 00031f03 00e1ffee")
 
 KEY = bytes(range(100, 164))
 FILLED = bytes((11 * a + a // 256) % 256 for a in range(board.MEMORY_BYTES))
@@ -31,17 +34,17 @@ def requested(key: bytes, counter: bytes, challenge: bytes, received: Optional[b
     return memory
 
 
-def outcome(memory: bytearray) -> Union[bytes, int]:
+def outcome(memory: bytearray, layout: bytes = LAYOUT) -> Union[bytes, int]:
     """The reply that the board stores, or the number of its refusal, which must leave the memory."""
     before = bytes(memory)
-    answer = attest(memory, page.LAYOUT)
+    answer = attest(memory, layout)
     if isinstance(answer, Refusal):
         return answer.number if memory == before else -1
     return bytes(memory[0x0270:0x0290])
 
 
 def exchange_faults() -> Iterator[str]:
-    """Key and AR are zeros; the token, the one-time key and the reply for 7 were worked out with openssl."""
+    """The page's layout; key and AR are zeros. Token, one-time key and reply for 7 were worked out with openssl."""
     key, memory = bytes(64), bytearray(board.MEMORY_BYTES)
     seen: list[object] = []
     for number in (0, 7, 7, 8):
@@ -49,7 +52,7 @@ def exchange_faults() -> Iterator[str]:
         assert isinstance(made, bytes)
         memory[0x0230:0x0270] = string(number) + made
         memory[0x6A00] = number == 8
-        seen.append(outcome(memory))
+        seen.append(outcome(memory, page.LAYOUT))
         seen.append(check(key, string(number), bytes(memory[0x0270:0x0290]), bytes(memory[0xE000:])))
     reply = bytes.fromhex("be24d9b7db5780809ff836ad5891598ed4785051ba4d3b7d29ef4ed0e84ee513")
     if seen != [10, False, reply, True, 10, True, 11, False]:
@@ -64,15 +67,15 @@ def exchange_faults() -> Iterator[str]:
 def stored_faults() -> Iterator[str]:
     """The memory after an accepted request, byte by byte."""
     memory = requested(KEY, string(255), string(256))
-    expected = bytearray(memory)
+    expected, region = bytearray(memory), memory[0xE100:0xEF00]
     made = hmac.new(KEY, string(256), hashlib.sha256).digest()
     one_time_key = hmac.new(KEY, made, hashlib.sha256).digest()
-    reply = hmac.new(one_time_key, expected[0xE000:], hashlib.sha256).digest()
+    reply = hmac.new(one_time_key, region, hashlib.sha256).digest()
     expected[0x0270:0x0290] = reply
     expected[0x0300:0x0320] = string(256)
-    if attest(memory, page.LAYOUT) != Accepted(string(256), reply) or memory != expected:
+    if attest(memory, LAYOUT) != Accepted(string(256), reply) or memory != expected:
         yield "an accepted request is answered or stored otherwise"
-    if one_time_key == made or reply == hmac.new(made, expected[0xE000:], hashlib.sha256).digest():
+    if one_time_key == made or reply == hmac.new(made, region, hashlib.sha256).digest():
         yield "the one-time key is the token"
 
 
@@ -102,25 +105,33 @@ def compared_faults() -> Iterator[str]:
             yield f"{challenge.hex()} over {counter.hex()} without its token is answered by {answers[1]!r}"
 
 
+# What a change at an address does to an accepted request.
+ALTERED = {
+    **dict.fromkeys((*range(0x0230, 0x0270), 0x6A00, 0x6A20, 0x6A3F), "refused 11"),
+    **dict.fromkeys((0x0300, 0x031F), "refused 10"),
+    **dict.fromkeys((0xE100, 0xE800, 0xEEFF), "another reply"),
+    **dict.fromkeys((0x022F, 0x0270, 0x028F, 0x0290, 0x02CF, 0x02FF, 0x0320, 0x0400), "the same reply"),
+    **dict.fromkeys((0x0000, 0x69FF, 0x6A40, 0xA000, 0xE0FF, 0xEF00, 0xFFFF), "the same reply"),
+}
+
+
 def altered_faults() -> Iterator[str]:
-    """One byte of the memory changed in one bit: what it does to the answer."""
     right = outcome(requested(KEY, string(4), string(5)))
-    refused = {address: 11 for address in (*range(0x0230, 0x0270), 0x6A00, 0x6A3F)}
-    for address in (*refused, 0xDFFF, 0xE000, 0xF000, 0xFFFF, 0x0000, 0x022F, 0x0270, 0x031F, 0x0320, 0x69FF, 0x6A40, 0xA000):
+    for address, expected in ALTERED.items():
         memory = requested(KEY, string(4), string(5))
-        memory[address] ^= 0x80 if address < 0x0250 else 0x01
+        memory[address] ^= 1 << address % 8
         answer = outcome(memory)
-        if address in refused or address == 0x031F:
-            fine = answer == refused.get(address, 10)
+        if isinstance(answer, int):
+            told = f"refused {answer}"
         else:
-            fine = isinstance(answer, bytes) and (answer != right) == (address >= 0xE000)
-        if not fine:
-            yield f"a change at {address:04x} is answered by {answer!r}"
+            told = "the same reply" if answer == right else "another reply"
+        if told != expected:
+            yield f"a change at {address:04x} is answered by {told}"
 
 
 def station_faults() -> Iterator[str]:
     memory = requested(KEY, string(4), string(5))
-    reply, region = outcome(memory), bytes(memory[0xE000:])
+    reply, region = outcome(memory), bytes(memory[0xE100:0xEF00])
     assert isinstance(reply, bytes)
     if check(KEY, string(5), reply, region) is not True:
         yield "the station does not take the board's reply"
@@ -161,8 +172,8 @@ def length_faults() -> Iterator[str]:
 
 
 def refusal_faults() -> Iterator[str]:
-    """Refusals 1 to 6, with every later ground and a challenge equal to CTR."""
-    for expected, memory_bytes, layout, *_ in page.REFUSALS[:6]:
+    """Refusals 1 to 6, also with later grounds; the challenge is equal to CTR."""
+    for expected, memory_bytes, layout, *_ in (("refused 1 0", 65_537, LAYOUT), *page.REFUSALS[:6]):
         memory = bytearray(b"\x3c" * memory_bytes)
         answer = attest(memory, layout)
         if str(answer) != expected or memory != b"\x3c" * memory_bytes:

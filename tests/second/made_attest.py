@@ -18,7 +18,7 @@ from made_traces import Draw
 
 STORE_CALL, ATTEST_CALL, TOKEN_CALL, CHECK_CALL = 1, 2, 3, 4
 
-# Call, bytes of memory not lent, address, region's length in three bytes, and the lengths of the first field, challenge and reply.
+# Call, bytes of memory not lent, address, region's length (three bytes); the lengths of the first field, challenge and reply.
 HEAD = struct.Struct("<BBHHBBBB6x")
 CHALLENGE_AT, REPLY_AT, RECORD = 96, 144, 256
 FILLER = b"\xee"
@@ -130,7 +130,7 @@ class Exchange:
         self.attest()
 
     def check(self, reply: Optional[bytes] = None, start: int = 0, end: int = 0) -> None:
-        """The station checks a reply, by default the board's, to the last accepted challenge; the region's ends may be moved."""
+        """The station checks a reply to the last accepted challenge, by default the board's. The region's ends may be moved."""
         at, ar = self.regions.mr[64], self.regions.ar
         given = bytes(self.memory[at : at + 32]) if reply is None else reply
         length = len(ar) + end - start
@@ -241,10 +241,10 @@ REFUSED = (
 
 
 def refusals(exchange: Exchange) -> None:
-    """Wrong memories and layouts, with a request that is accepted in the end, with a wrong token, and with an old challenge."""
+    """Wrong memories and layouts, with an old challenge, with a wrong token, and with a request that is accepted in the end."""
     challenge = moved(exchange.counter, 1)
-    for put, received in ((exchange.counter, None), (challenge, bytes(32)), (challenge, None)):
-        exchange.put(put, received)
+    for asked, received in ((exchange.counter, None), (challenge, bytes(32)), (challenge, None)):
+        exchange.put(asked, received)
         for lent in (KEPT - 255, board.MEMORY_BYTES - 1, board.MEMORY_BYTES + 1):
             for layout in (page.LAYOUT, REFUSED[0]):
                 exchange.cases.append(Case(ATTEST_CALL, layout, lent=lent))
@@ -290,14 +290,14 @@ def station_lengths(draw: Draw, memory: bytes) -> Iterator[Case]:
 
 
 def station_regions(draw: Draw, memory: bytes) -> Iterator[Case]:
-    """Regions of every extreme, with the reply that belongs to what is lent, and with one that does not."""
+    """Regions of every extreme, with the reply that belongs to the bytes there are, and with one that does not."""
     key, challenge = drawn(draw, 64), drawn(draw, 32)
     for address in (0, 1, 0x8000, 0xFFFF):
         for length in (0, 1, 2, 64, 65_535, 65_536, 65_537, 2**24 - 1):
             reply = reply_of(key, challenge, memory[address : address + length])
             yield Case(CHECK_CALL, key, challenge, reply, address, length)
     for length in (0, 1, 65_536, 65_537):
-        yield Case(CHECK_CALL, key, challenge, turned(reply, 31), 0, length)
+        yield Case(CHECK_CALL, key, challenge, bytes(32), 0, length)
 
 
 def station_tokens(draw: Draw) -> Iterator[Case]:

@@ -1,4 +1,4 @@
-"""What the program `attest_cases` has to print of each case: the answer, and a digest of the memory that was lent to the board.
+"""What the program `attest_cases` has to print of each case: the answer, and a digest of the memory if it was lent.
 
 The memory is filled once and kept from case to case.
 """
@@ -69,7 +69,7 @@ def word(done: Made) -> str:
 
 
 def met(done: Made) -> Iterator[str]:
-    """What a call meets: its answer and, if the board got as far as the request, how that differs from what it is held to."""
+    """What a call meets: its answer and, if the board looked at the request, how that differs from what is asked of it."""
     answer = word(done)
     yield answer
     yield f"{answer} by call {done.call}"

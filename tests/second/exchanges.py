@@ -1,5 +1,6 @@
-"""Exchanges of a board and a station, worked out by hand: KR is from 6A00, the challenge at 0230, the token at 0250, the reply
-at 0270, CTR from 0300.
+"""Exchanges of a board and a station, worked out by hand.
+
+In all of them KR is from 6A00, the challenge at 0230, the token at 0250, the reply at 0270, CTR from 0300.
 """
 from __future__ import annotations
 

@@ -18,7 +18,7 @@ from made_traces import Draw
 
 STORE_CALL, ATTEST_CALL, TOKEN_CALL, CHECK_CALL = 1, 2, 3, 4
 
-# Call, bytes of memory not lent, address, region's length (three bytes); the lengths of the first field, challenge and reply.
+# Call, bytes of memory not lent, address, region's length in three bytes; lengths of the first field, challenge and reply.
 HEAD = struct.Struct("<BBHHBBBB6x")
 CHALLENGE_AT, REPLY_AT, RECORD = 96, 144, 256
 FILLER = b"\xee"
@@ -130,7 +130,7 @@ class Exchange:
         self.attest()
 
     def check(self, reply: Optional[bytes] = None, start: int = 0, end: int = 0) -> None:
-        """The station checks a reply to the last accepted challenge, by default the board's. The region's ends may be moved."""
+        """The station checks a reply, by default the board's, for the last accepted challenge. The region's ends may move."""
         at, ar = self.regions.mr[64], self.regions.ar
         given = bytes(self.memory[at : at + 32]) if reply is None else reply
         length = len(ar) + end - start
@@ -241,7 +241,7 @@ REFUSED = (
 
 
 def refusals(exchange: Exchange) -> None:
-    """Wrong memories and layouts, with an old challenge, with a wrong token, and with a request that is accepted in the end."""
+    """Wrong memories and layouts, with an old challenge, with a wrong token, and with a request that is then accepted."""
     challenge = moved(exchange.counter, 1)
     for asked, received in ((exchange.counter, None), (challenge, bytes(32)), (challenge, None)):
         exchange.put(asked, received)

@@ -33,7 +33,7 @@ fn number(low: u8, high: u8) -> usize
     layout::word(low, high) as usize
 }
 
-// The n bytes from an address on, or as many of them as there are.
+// The n bytes from a place on, or as many of them as there are.
 fn part(bytes: &[u8], from: usize, n: usize) -> &[u8] {
     let all = bytes.len();
     if all < from {

@@ -8,3 +8,4 @@ pub mod Demand3
 pub mod Demand3Calls
 pub mod Exact
 pub mod Witness
+pub mod Decisions

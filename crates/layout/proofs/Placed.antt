@@ -59,7 +59,7 @@ good-placed b h g =
     let mr = region b MR in
     let ctr = region b CTR in
     let s = before-or-behind (mr .lo) (mr .hi) (ctr .lo) (ctr .hi) (g .ordered MR (omega arith)) (g .ordered CTR (omega arith))
-        (λ x p q r t. g .apart MR CTR (omega arith) (omega arith) refl x (ends-within mr x p q) (ends-within ctr x r t)) in
+    (λ x p q r t. g .apart MR CTR (omega arith) (omega arith) refl x (ends-within mr x p q) (ends-within ctr x r t)) in
     record {
       key = ek;
       key-in = omega arith;

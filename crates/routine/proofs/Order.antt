@@ -144,5 +144,5 @@ greater-number a b e ha hb =
     (λ p. p ∙ sym (lt-ltb (number b) (number a) (number-greater a b e ha hb p)))
     (λ p.
     let most : number a ≤ number b =
-        elim (not-greater a b e p) [ inl q ↦ le-of-lt (number-greater b a (sym e) hb ha q) | inr q ↦ rw q (le-refl (number b)) ] in
+    elim (not-greater a b e p) [ inl q ↦ le-of-lt (number-greater b a (sym e) hb ha q) | inr q ↦ rw q (le-refl (number b)) ] in
     p ∙ sym (le-ltb (number b) (number a) most))

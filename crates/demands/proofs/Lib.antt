@@ -9,3 +9,4 @@ pub mod Demand3Calls
 pub mod Exact
 pub mod Witness
 pub mod Decisions
+pub mod Demand2

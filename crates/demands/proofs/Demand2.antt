@@ -142,8 +142,9 @@ module _ (layout x y x′ y′ : List ℕ) (b : Bytes layout) (s : SameRequest (
 
 pub frame : claim.Frame
 frame layout x y x′ y′ r q b s p p′ =
-    let e : r ≡ q =
-    row-settled r (attestCheck x layout) (p .answered) ∙ same-check layout x y s ∙ sym (row-settled q (attestCheck y layout) (p′ .answered)) in (
+    let f = row-settled r (attestCheck x layout) (p .answered) in
+    let g = row-settled q (attestCheck y layout) (p′ .answered) in
+    let e : r ≡ q = f ∙ same-check layout x y s ∙ sym g in (
       e,
       λ d.
           same-stored layout x y x′ y′ b s (subst (Attests x layout x′) d p) (subst (Attests y layout y′) (sym e ∙ d) p′),
@@ -195,8 +196,8 @@ module _ (memory layout memory′ : List ℕ) (b : Bytes layout) (p : Attests me
 
   agrees : Agrees l memory memory′
   agrees =
-      let n = board.length-attested l (lies memory layout memory′ b p) memory (allowed memory layout memory′ b p .long) in
       let w = lies memory layout memory′ b p in
+      let n = board.length-attested l w memory (allowed memory layout memory′ b p .long) in
       record {
         same = λ v q. says-yes v q (fit (attested l memory) (omega (arith, n, w .region)) (omega (arith, n, w .region-in))) replied-is;
         other = λ expected v some most q. (
@@ -209,7 +210,9 @@ pub board-and-station : claim.BoardAndStation
 board-and-station memory layout memory′ made r b long good fresh makes came p =
     let l = layoutOf layout in
     let w = placed layout b (good-done layout good) in
-    let made-is = gives-bytes makes (token-fits (key l memory) (challenge l memory) (board.length-key l w memory long) (board.length-challenge l w memory long)) in
+    let k = board.length-key l w memory long in
+    let c = board.length-challenge l w memory long in
+    let made-is = gives-bytes makes (token-fits (key l memory) (challenge l memory) k c) in
     let d : r ≡ Done =
     accepts-exactly memory layout memory′ r p .1 (long, good, record { fresh = fresh; genuine = came ∙ made-is ∙ token-is _ _ }) in
     (d, agrees memory layout memory′ b (subst (Attests memory layout memory′) d p))

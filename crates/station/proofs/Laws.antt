@@ -76,7 +76,8 @@ module _ {k challenge given region : List ℕ} where
       let q = told-yes (checkUnfit k challenge given region) (same given (reply k challenge region)) (p .answered) in
       (fits-check k challenge given region (q .0), same-equal given (reply k challenge region) (q .1))
 
-  pub says-yes : (v : Verdict) → ChecksReply k challenge given region v → Fit k challenge given region → given ≡ reply k challenge region → v ≡ Yes
+  pub says-yes : (v : Verdict) → ChecksReply k challenge given region v
+      → Fit k challenge given region → given ≡ reply k challenge region → v ≡ Yes
   says-yes v p f e =
       verdict-settled v Yes
       (p .answered ∙ simp (check-fits k challenge given region f, equal-same given (reply k challenge region) e))

@@ -10,37 +10,29 @@ use lib.Dec.{ltb}
 use lib.ListN.{length, getD, take, drop, length-take, length-drop}
 use lib.Seq.{sets, length-sets, getD-drop}
 use Rattle.refusal.specs.Bytes.{Bytes}
+use Rattle.refusal.specs.Numbers.{tokenDiffers}
 use Rattle.refusal.specs.declared.Answer.the-variants.{Done}
 use Rattle.refusal.proofs.Tests.{cases, neither, clash}
+use Rattle.refusal.proofs.Order.{Refuses}
 use Rattle.layout.specs.declared.Region.{Region}
 use Rattle.layout.specs.declared.Layout.{Layout}
 use Rattle.layout.specs.Regions.{within, size}
 use Rattle.layout.specs.Layouts.{layoutOf, layoutCheck}
 use Rattle.layout.specs.Calls.{memoryBytes}
 use Rattle.layout.proofs.Laws.{ends-within}
-use Rattle.layout.proofs.Calls.{call-passed, call-rest}
+use Rattle.layout.proofs.Calls.{call-passed, call-rest, call-numbers}
 use Rattle.layout.proofs.Placed.{Placed}
 use Rattle.routine.specs.Strings.{greater}
 use Rattle.routine.specs.Routine.{token, reply}
-use Rattle.routine.proofs.Laws.{length-reply, request-passed, request-passes}
+use Rattle.routine.proofs.Laws.{length-reply, request-passed, request-passes, bytes-reply, request-numbers}
 use Rattle.board.specs.Memory.{bytesAt, bytesOf, key, counter, attested, challenge, received, replyAt, replied}
 use Rattle.board.specs.Attestation.{attestCheck, due, accepted, storesTo}
-use Rattle.board.proofs.Stores.{Off, bytes-agree, stored-there, stored-off, stored-apart}
+use Rattle.board.proofs.Stores.{Off, bytes-agree, stored-there, stored-off, stored-apart, bytes-stored, bytes-read}
 
 -- ---- what is read
 
 pub length-bytes : (a n : ℕ) (memory : List ℕ) → a + n ≤ length memory → length (bytesAt a n memory) ≡ n
 length-bytes a n memory h = simp (length-take, length-drop) (omega arith)
-
-bytes-first : (n : ℕ) (memory : List ℕ) → Bytes memory → Bytes (take n memory)
-bytes-first zero memory h i = omega arith
-bytes-first (suc n) [] h i = omega arith
-bytes-first (suc n) (x ∷ memory) h zero = h 0
-bytes-first (suc n) (x ∷ memory) h (suc i) = bytes-first n memory (λ k. h (suc k)) i
-
--- a part of a memory of bytes is bytes
-pub bytes-part : (a n : ℕ) (memory : List ℕ) → Bytes memory → Bytes (bytesAt a n memory)
-bytes-part a n memory h = bytes-first n (drop a memory) (λ i. rw getD-drop (h (a + i)))
 
 -- memories of one length that agree at each address of a region have the same bytes there
 pub region-agrees : (r : Region) (x y : List ℕ) → length x ≡ length y → ((a : ℕ) → within r a ≡ true → getD x a 0 ≡ getD y a 0)
@@ -108,6 +100,13 @@ module _ (l : Layout) (p : Placed l) (memory : List ℕ) (long : length memory �
           (λ b. cases (ltb (r .hi) k) (λ c. inr (ltb-true (r .hi) k c))
           (λ c. clash (within r k) (ends-within r k (ltb-false k (r .lo) b) (ltb-false (r .hi) k c)) t))
 
+pub bytes-accepted : (l : Layout) (memory : List ℕ) → Bytes memory → Bytes (accepted l memory)
+unfolding accepted due
+bytes-accepted l memory p =
+    bytes-stored _ (l .ctr .lo) (challenge l memory)
+    (bytes-stored memory (replyAt l) (due l memory) p (bytes-reply _ _ _))
+    (bytes-read memory (l .mr .lo) 32 p)
+
 -- ---- which calls are accepted
 
 -- the memory's length, the layout, and steps 1 and 2
@@ -127,3 +126,9 @@ done-allowed memory layout e =
 pub allowed-done : (memory layout : List ℕ) → Allowed memory layout → attestCheck memory layout ≡ Done
 unfolding attestCheck
 allowed-done memory layout a = call-rest memory layout _ (a .long) (a .laid) ∙ request-passes _ _ _ _ (a .fresh) (a .genuine)
+
+-- the others are refused with 1 to 11
+pub attest-numbers : (memory layout : List ℕ) → Refuses (λ n. n ≤ tokenDiffers) (attestCheck memory layout)
+unfolding attestCheck
+attest-numbers memory layout =
+    call-numbers memory layout _ tokenDiffers (omega arith) (λ r e. request-numbers _ _ _ _ r e .1)

@@ -2,12 +2,51 @@
 use mathlib.Core.Path.{_≡_, refl, sym, ap, _∙_}
 use mathlib.Core.Logic.{_≢_, _⊎_, inl, inr}
 use mathlib.Core.List.{List, [], _∷_, _++_, append-assoc}
-use Prim.Native.Nat.{ℕ, zero, suc, _+_, _≤_, _<_}
+use Prim.Native.Nat.{ℕ, zero, suc, _+_, _≤_, _<_, _-_}
 use native.Mathlib.Nat.{add-zero, not-suc-le-zero, le-of-suc-le-suc}
 use native.Mathlib.Omega.{arith}
 use lib.ListN.{length, getD, take, drop, set, length-take, length-drop}
 use lib.Seq.{sets, length-sets, sets-eq, getD-set-other, length-take-le, take-at, drop-at, getD-take, getD-drop, ext-getD}
+use Rattle.refusal.specs.Bytes.{Bytes}
 use Rattle.board.specs.Memory.{bytesAt}
+
+-- ---- what is read
+
+pub byte-read : (l : List ℕ) (a n i : ℕ) → i < n → getD (bytesAt a n l) i 0 ≡ getD l (a + i) 0
+byte-read l a n i h = getD-take n (drop a l) i 0 h ∙ getD-drop a l i 0
+
+-- memories of one length that agree at n addresses from a on have the same bytes there
+pub bytes-agree : (x y : List ℕ) (a n : ℕ) → length x ≡ length y → ((i : ℕ) → i < n → getD x (a + i) 0 ≡ getD y (a + i) 0)
+    → bytesAt a n x ≡ bytesAt a n y
+bytes-agree x y a n e f =
+    ext-getD 0 (bytesAt a n x) (bytesAt a n y)
+    (simp (length-take, length-drop, e))
+    (λ i h.
+    let hn : i < n = omega (arith, length-take n (drop a x)) in
+    byte-read x a n i hn ∙ f i hn ∙ sym (byte-read y a n i hn))
+
+-- where the same bytes are read, each is the same
+pub read-same : (x y : List ℕ) (a n : ℕ) → bytesAt a n x ≡ bytesAt a n y → (k : ℕ) → a ≤ k → k < a + n → getD x k 0 ≡ getD y k 0
+read-same x y a n e k p q =
+    let i : ℕ = k - a in
+    let s : a + i ≡ k = omega arith in
+    let h : i < n = omega arith in
+    rw (← s) (sym (byte-read x a n i h) ∙ ap (λ (v : List ℕ). getD v i 0) e ∙ byte-read y a n i h)
+
+-- bytes among those read
+pub read-inside : (l : List ℕ) (a n b m : ℕ) → b + m ≤ n → bytesAt (a + b) m l ≡ bytesAt b m (bytesAt a n l)
+read-inside l a n b m h =
+    ext-getD 0 (bytesAt (a + b) m l) (bytesAt b m (bytesAt a n l))
+    (simp (length-take, length-drop) (omega arith))
+    (λ i g.
+    let p : i < m = omega (arith, length-take m (drop (a + b) l)) in
+    let s : a + b + i ≡ a + (b + i) = omega arith in
+    byte-read l (a + b) m i p
+    ∙ ap (λ (k : ℕ). getD l k 0) s
+    ∙ sym (byte-read l a n (b + i) (omega arith))
+    ∙ sym (byte-read (bytesAt a n l) b m i p))
+
+-- ---- what is stored
 
 -- address k is not among n addresses from a on
 abbrev pub Off : ℕ → ℕ → ℕ → Type 0
@@ -37,23 +76,31 @@ stored-off l a (x ∷ v) k o =
     stored-off (set l a x) (suc a) v k (elim o [ inl h ↦ inl (omega arith) | inr h ↦ inr (omega arith) ])
     ∙ getD-set-other l a k x 0 n
 
--- memories of one length that agree at n addresses from a on have the same bytes there
-pub bytes-agree : (x y : List ℕ) (a n : ℕ) → length x ≡ length y → ((i : ℕ) → i < n → getD x (a + i) 0 ≡ getD y (a + i) 0)
-    → bytesAt a n x ≡ bytesAt a n y
-bytes-agree x y a n e f =
-    ext-getD 0 (bytesAt a n x) (bytesAt a n y)
-    (simp (length-take, length-drop, e))
-    (λ i h.
-    let hn : i < n = omega (arith, length-take n (drop a x)) in
-    getD-take n (drop a x) i 0 hn
-    ∙ getD-drop a x i 0
-    ∙ f i hn
-    ∙ sym (getD-drop a y i 0)
-    ∙ sym (getD-take n (drop a y) i 0 hn))
-
 -- bytes elsewhere are read as before
 pub stored-apart : (l : List ℕ) (a : ℕ) (v : List ℕ) (b n : ℕ) → (b + n ≤ a) ⊎ (a + length v ≤ b)
     → bytesAt b n (sets l a v) ≡ bytesAt b n l
 stored-apart l a v b n o =
     bytes-agree (sets l a v) l b n (length-sets l a v)
     (λ i h. stored-off l a v (b + i) (elim o [ inl p ↦ inl (omega arith) | inr p ↦ inr (omega arith) ]))
+
+-- ---- bytes stay bytes
+
+bytes-set : (l : List ℕ) (a x : ℕ) → x < 256 → Bytes l → Bytes (set l a x)
+bytes-set [] a x h p i = p i
+bytes-set (y ∷ l) zero x h p zero = h
+bytes-set (y ∷ l) zero x h p (suc i) = p (suc i)
+bytes-set (y ∷ l) (suc a) x h p zero = p zero
+bytes-set (y ∷ l) (suc a) x h p (suc i) = bytes-set l a x h (λ j. p (suc j)) i
+
+pub bytes-stored : (l : List ℕ) (a : ℕ) (v : List ℕ) → Bytes l → Bytes v → Bytes (sets l a v)
+bytes-stored l a [] p q = p
+bytes-stored l a (x ∷ v) p q = bytes-stored (set l a x) (suc a) v (bytes-set l a x (q zero) p) (λ i. q (suc i))
+
+bytes-taken : (n : ℕ) (l : List ℕ) → Bytes l → Bytes (take n l)
+bytes-taken zero l p i = omega arith
+bytes-taken (suc n) [] p i = omega arith
+bytes-taken (suc n) (x ∷ l) p zero = p zero
+bytes-taken (suc n) (x ∷ l) p (suc i) = bytes-taken n l (λ j. p (suc j)) i
+
+pub bytes-read : (l : List ℕ) (a n : ℕ) → Bytes l → Bytes (bytesAt a n l)
+bytes-read l a n p = bytes-taken n (drop a l) (λ i. rw getD-drop (p (a + i)))

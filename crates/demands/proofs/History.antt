@@ -31,7 +31,8 @@ use Rattle.routine.proofs.Order.{greater-irreflexive, greater-trans, number-gre
 use Rattle.board.specs.Memory.{counter, challenge}
 use Rattle.board.specs.Attestation.{attestCheck}
 use Rattle.board.specs.Promises.{Attests}
-use Rattle.board.proofs.Laws.{bytes-part, region-agrees, length-challenge, accepted-counter, done-allowed}
+use Rattle.board.proofs.Stores.{bytes-read}
+use Rattle.board.proofs.Laws.{region-agrees, length-challenge, accepted-counter, done-allowed}
 use Rattle.demands.specs.Traces.{remembers, byteAt}
 use Rattle.demands.specs.History as claim
 use Rattle.demands.specs.History.{Event, attest, trace, change, Keeps, storesCounter, Happens, History, Accepted, counterAt}
@@ -185,8 +186,8 @@ numbers-increase layout events memories n s i j c d h k u v a b =
     let q = accepted-advances layout events memories n s j d k b in
     let at = layoutOf layout .mr .lo in
     number-greater d c (ap length (b .request) ∙ q .long ∙ sym (ap length (a .request) ∙ p .long))
-    (rw (b .request) (bytes-part at 32 (memories j) v))
-    (rw (a .request) (bytes-part at 32 (memories i) u))
+    (rw (b .request) (bytes-read (memories j) at 32 v))
+    (rw (a .request) (bytes-read (memories i) at 32 u))
     (increase layout events memories n s i j c d h k a b)
 
 earlier-or-later : {P : Type 0} (i j : ℕ) → (i < j → P) → (j < i → P) → (i ≡ j → P) → P

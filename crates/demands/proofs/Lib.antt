@@ -3,6 +3,8 @@ pub mod Exposed
 pub mod Runs
 pub mod Traces
 pub mod Vrased
+pub mod Decisions
+pub mod Demand2
 pub mod Memories
 pub mod Demand3
 pub mod Demand3Calls

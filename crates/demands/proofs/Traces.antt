@@ -242,7 +242,7 @@ parts-of-bytes l b c x n k e =
 
 -- ---- a trace by one-step calls
 
-told-judged : (a : Answer) (r q : Totals) → tracedRow (traced.Judged r) ≡ told a (values q) → (a ≡ Done) × (r ≡ q)
+pub told-judged : (a : Answer) (r q : Totals) → tracedRow (traced.Judged r) ≡ told a (values q) → (a ≡ Done) × (r ≡ q)
 told-judged Done r q e = (refl, cc (traced-row-settled (traced.Judged r) (traced.Judged q) e))
 told-judged (Refused f) r q e = absurd (let z : _≡_ {A = ℕ} 0 1 = cc in omega arith)
 

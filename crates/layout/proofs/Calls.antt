@@ -2,23 +2,24 @@
 use mathlib.Core.Path.{_≡_, refl, ap}
 use mathlib.Core.Bool.{Bool, true, false, not}
 use mathlib.Core.List.{List}
-use Prim.Native.Nat.{ℕ}
+use Prim.Native.Nat.{ℕ, _≤_}
 use native.Mathlib.Omega.{arith}
 use lib.Dec.{eqb}
 use lib.ListN.{length}
 use borrow.Author.Tests.{eqb-true, eq-eqb, not-false}
 use Rattle.refusal.specs.Choice.{pick}
 use Rattle.refusal.specs.Answers.{andThen}
+use Rattle.refusal.specs.Numbers.{memorySize, regionsShare}
 use Rattle.refusal.specs.declared.Refusal.{Refusal}
 use Rattle.refusal.specs.declared.Answer.{Answer}
 use Rattle.refusal.specs.declared.Answer.the-variants.{Done, Refused}
-use Rattle.refusal.proofs.Order.{done-passed, both-done}
+use Rattle.refusal.proofs.Order.{done-passed, both-done, Refuses, refuses-test, refuses-then}
 use Rattle.layout.specs.declared.Layout.{Layout}
 use Rattle.layout.specs.declared.Checked.the-variants as checked
 use Rattle.layout.specs.Layouts.{layoutOf, layoutCheck}
 use Rattle.layout.specs.Calls.{memoryBytes, callCheck}
 use Rattle.layout.specs.Promises.{row, Checks, Admits}
-use Rattle.layout.proofs.Laws.{told-good, told-refused}
+use Rattle.layout.proofs.Laws.{told-good, told-refused, layout-numbers}
 
 pub call-passed : (memory layout : List ℕ) (rest : Answer) → callCheck memory layout rest ≡ Done
     → (length memory ≡ memoryBytes) × (layoutCheck layout ≡ Done) × (rest ≡ Done)
@@ -42,6 +43,13 @@ pub call-refused : (memory layout : List ℕ) (rest : Answer) (q : Refusal) → 
     → callCheck memory layout rest ≡ Refused q
 call-refused memory layout rest q e =
     refused-anyway (not (eqb (length memory) memoryBytes)) _ q (layoutCheck layout) rest e
+
+-- the numbers that a call is refused with go no further than the rest's
+pub call-numbers : (memory layout : List ℕ) (rest : Answer) (most : ℕ) → regionsShare ≤ most
+    → Refuses (λ n. n ≤ most) rest → Refuses (λ n. n ≤ most) (callCheck memory layout rest)
+call-numbers memory layout rest most h f =
+    refuses-test (λ n. n ≤ most) (not (eqb (length memory) memoryBytes)) memorySize 0 (andThen (layoutCheck layout) rest) (omega arith)
+    (refuses-then (λ n. n ≤ most) (layoutCheck layout) rest (λ r e. let p = layout-numbers layout r e .1 in omega arith) f)
 
 -- `admit`, on plain variables
 module _ (memory layout : List ℕ) (rest : Answer) (long : length memory ≡ memoryBytes) where

@@ -9,18 +9,20 @@ use borrow.Author.Tests.{leb-true, le-leb, ltb-true, ltb-false, lt-ltb, le-ltb, 
 use lib.Dec.{leb, ltb, eqb}
 use lib.ListN.{length}
 use Rattle.refusal.specs.Answers.{told}
+use Rattle.refusal.specs.Numbers.{layoutSize, regionReversed, regionSize, zeroInCode, regionsShare}
 use Rattle.refusal.specs.declared.Refusal.{Refusal}
 use Rattle.refusal.specs.declared.Answer.{Answer}
 use Rattle.refusal.specs.declared.Answer.the-variants.{Done, Refused}
 use Rattle.refusal.proofs.Tests.{cases, untrue, both, neither}
 use Rattle.refusal.proofs.First.{none-found, found-none}
-use Rattle.refusal.proofs.Order.{done-passed}
+use Rattle.refusal.proofs.Order.{done-passed, Refuses, refuses-none, refuses-test}
 use Rattle.layout.specs.declared.Region.{Region}
 use Rattle.layout.specs.declared.Layout.{Layout}
 use Rattle.layout.specs.declared.Checked.{Checked}
 use Rattle.layout.specs.declared.Checked.the-variants as checked
 use Rattle.layout.specs.Regions.{within, reversed, size, shares}
 use Rattle.layout.specs.Layouts.{CR, KR, XS, MR, CTR, AR, region, layoutOf, wrongSize, mayShare, collide, layoutCheck}
+use Rattle.layout.specs.Layouts.{firstReversed, firstWrongSize, firstCollision}
 use Rattle.layout.specs.Promises.{values, row, Checks}
 use Rattle.layout.specs.Settled.{row-settled, checks-settled}
 use Rattle.layout.specs.Good.{Good}
@@ -170,6 +172,17 @@ good-done b g =
       outside = g .zero;
       apart = λ n h. untrue (ltb (n / 6) (n % 6) && collide b (n / 6) (n % 6)) (no-collision b g (n / 6) (n % 6) (omega arith));
     })
+
+-- one that does not is refused with 2 to 6
+pub layout-numbers : (b : List ℕ) → Refuses (λ n. (layoutSize ≤ n) × (n ≤ regionsShare)) (layoutCheck b)
+unfolding layoutCheck
+layout-numbers b =
+    let P : ℕ → Type 0 = λ n. (layoutSize ≤ n) × (n ≤ regionsShare) in
+    refuses-test P (not (eqb (length b) 24)) layoutSize 0 _ (omega arith, omega arith)
+    (refuses-test P (ltb (firstReversed b) 6) regionReversed (firstReversed b) _ (omega arith, omega arith)
+    (refuses-test P (ltb (firstWrongSize b) 6) regionSize (firstWrongSize b) _ (omega arith, omega arith)
+    (refuses-test P (within (region b CR) 0) zeroInCode 0 _ (omega arith, omega arith)
+    (refuses-test P (ltb (firstCollision b) 36) regionsShare 0 Done (omega arith, omega arith) (refuses-none P)))))
 
 -- ---- the regions of a layout that passes
 

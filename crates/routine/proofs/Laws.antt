@@ -2,12 +2,16 @@
 use mathlib.Core.Path.{_≡_, refl, sym, ap}
 use mathlib.Core.Bool.{Bool, true, false, not}
 use mathlib.Core.List.{List}
-use Prim.Native.Nat.{ℕ}
+use Prim.Native.Nat.{ℕ, _≤_}
+use native.Mathlib.Omega.{arith}
 use borrow.Author.Tests.{not-false}
 use lib.ListN.{length}
+use Rattle.refusal.specs.Bytes.{Bytes}
+use Rattle.refusal.specs.Numbers.{challengeNotGreater, tokenDiffers}
 use Rattle.refusal.specs.declared.Answer.the-variants.{Done}
-use Rattle.refusal.proofs.Order.{done-passed}
+use Rattle.refusal.proofs.Order.{done-passed, Refuses, refuses-none, refuses-test}
 use Rattle.sha256.proofs.Laws.{length-sha256}
+use Rattle.sha256.proofs.Bytes.{bytes-sha256}
 use Rattle.hmac.specs.Hmac.{hmac}
 use Rattle.routine.specs.Strings.{greater, same}
 use Rattle.routine.specs.Routine.{token, oneTimeKey, replyTo, reply, requestCheck}
@@ -36,6 +40,14 @@ pub reply-to-is : (k challenge t region : List ℕ) → token k challenge ≡ t 
 unfolding reply
 reply-to-is k challenge t region e = ap (λ (x : List ℕ). replyTo k x region) (sym e)
 
+pub bytes-hmac : (k m : List ℕ) → Bytes (hmac k m)
+unfolding hmac
+bytes-hmac k m = bytes-sha256 _
+
+pub bytes-reply : (k challenge region : List ℕ) → Bytes (reply k challenge region)
+unfolding reply
+bytes-reply k challenge region = bytes-hmac _ region
+
 -- ---- steps 1 and 2
 
 pub request-passed : (k challenge received counter : List ℕ) → requestCheck k challenge received counter ≡ Done
@@ -50,3 +62,12 @@ pub request-passes : (k challenge received counter : List ℕ) → greater chall
     → requestCheck k challenge received counter ≡ Done
 unfolding requestCheck
 request-passes k challenge received counter g e = simp (g, equal-same (token k challenge) received e)
+
+-- refused with 10 or 11
+pub request-numbers : (k challenge received counter : List ℕ)
+    → Refuses (λ n. (challengeNotGreater ≤ n) × (n ≤ tokenDiffers)) (requestCheck k challenge received counter)
+unfolding requestCheck
+request-numbers k challenge received counter =
+    let P : ℕ → Type 0 = λ n. (challengeNotGreater ≤ n) × (n ≤ tokenDiffers) in
+    refuses-test P (not (greater challenge counter)) challengeNotGreater 0 _ (omega arith, omega arith)
+    (refuses-test P (not (same (token k challenge) received)) tokenDiffers 0 Done (omega arith, omega arith) (refuses-none P))

@@ -3,3 +3,4 @@ pub mod Running
 pub mod Padding
 pub mod Answers
 pub mod Laws
+pub mod Bytes

@@ -1,0 +1,218 @@
+-- The routine on the board, the station, and both together: the claims of demand 2. Assumes nothing.
+use mathlib.Core.Path.{_≡_, sym, ap, subst, _∙_}
+use mathlib.Core.Bool.{true}
+use mathlib.Core.List.{List}
+use Prim.Native.Nat.{ℕ, _+_, _≤_}
+use native.Mathlib.Omega.{arith}
+use lib.ListN.{length, getD, take, drop}
+use lib.Seq.{take-take}
+use Rattle.refusal.specs.Bytes.{Bytes}
+use Rattle.refusal.specs.Answers.{lent}
+use Rattle.refusal.specs.Settled.{row-settled}
+use Rattle.refusal.specs.declared.Answer.{Answer}
+use Rattle.refusal.specs.declared.Answer.the-variants.{Done, Refused}
+use Rattle.refusal.proofs.Tests.{cases, clash}
+use Rattle.layout.specs.declared.Region.{Region}
+use Rattle.layout.specs.declared.Layout.{Layout}
+use Rattle.layout.specs.Regions.{within, size}
+use Rattle.layout.specs.Layouts.{layoutOf}
+use Rattle.layout.proofs.Laws.{done-good, good-done, within-ends}
+use Rattle.layout.proofs.Placed.{Placed, placed}
+use Rattle.sha256.proofs.Laws.{gives-bytes}
+use Rattle.routine.specs.Routine.{reply}
+use Rattle.routine.proofs.Laws.{token-is, reply-is, length-reply}
+use Rattle.board.specs.Memory.{bytesAt, key, counter, attested, challenge, received, replyAt, replied}
+use Rattle.board.specs.Attestation.{attestCheck, due, accepted, storesTo}
+use Rattle.board.specs.Promises.{Attests}
+use Rattle.board.proofs.Stores.{read-same, read-inside}
+use Rattle.board.proofs.Laws as board
+use Rattle.board.proofs.Laws.{Allowed, done-allowed, allowed-done, attest-numbers, due-is}
+use Rattle.station.specs.Promises.{checkUnfit, ChecksReply}
+use Rattle.station.proofs.Laws.{Fit, token-fits, check-fits, fits-check, said-yes, says-yes, said-refused, says-refused}
+use Rattle.demands.specs.Demand2 as claim
+use Rattle.demands.specs.Demand2.{Answers, SameRequest, Lengths, Agrees}
+
+-- ---- the routine, on the board
+
+pub accepts-exactly : claim.AcceptsExactly
+accepts-exactly memory layout memory′ r p =
+    let e = row-settled r (attestCheck memory layout) (p .answered) in (
+      λ d.
+          let a = done-allowed memory layout (sym e ∙ d) in
+          (a .long, done-good layout (a .laid), record { fresh = a .fresh; genuine = sym (a .genuine) ∙ token-is _ _ }),
+      λ g.
+          e ∙ allowed-done memory layout (record {
+            long = g .0;
+            laid = good-done layout (g .1);
+            fresh = g .2 .fresh;
+            genuine = token-is _ _ ∙ sym (g .2 .genuine);
+          }),
+    )
+
+-- an accepted call
+module _ (memory layout memory′ : List ℕ) (b : Bytes layout) (p : Attests memory layout memory′ Done) where
+  check-done : attestCheck memory layout ≡ Done
+  check-done = sym (row-settled Done (attestCheck memory layout) (p .answered))
+
+  allowed : Allowed memory layout
+  allowed = done-allowed memory layout check-done
+
+  left : memory′ ≡ accepted (layoutOf layout) memory
+  left = p .memory-left ∙ simp check-done
+
+  lies : Placed (layoutOf layout)
+  lies = placed layout b (allowed .laid)
+
+  replied-due : replied (layoutOf layout) memory′ ≡ due (layoutOf layout) memory
+  replied-due =
+      ap (λ (m : List ℕ). replied (layoutOf layout) m) left ∙ board.accepted-reply (layoutOf layout) lies memory (allowed .long)
+
+  counted : counter (layoutOf layout) memory′ ≡ challenge (layoutOf layout) memory
+  counted =
+      ap (λ (m : List ℕ). counter (layoutOf layout) m) left ∙ board.accepted-counter (layoutOf layout) lies memory (allowed .long)
+
+  answers : Answers (layoutOf layout) memory memory′
+  answers =
+      record {
+        reply = replied-due ∙ due-is (layoutOf layout) memory ∙ reply-is _ _ _;
+        counted = counted;
+        kept = λ a h. ap (λ (m : List ℕ). getD m a 0) left ∙ board.accepted-else (layoutOf layout) lies memory (allowed .long) a h;
+        long = ap length left ∙ board.length-accepted (layoutOf layout) lies memory (allowed .long);
+      }
+
+pub answers-so : claim.AnswersSo
+answers-so = answers
+
+pub refuses-so : claim.RefusesSo
+refuses-so memory layout memory′ q p =
+    let e : attestCheck memory layout ≡ Refused q = sym (row-settled (Refused q) (attestCheck memory layout) (p .answered)) in
+    (p .memory-left ∙ simp e, λ n. let h = attest-numbers memory layout q e in omega arith)
+
+lent-bytes : (a : Answer) (new old : List ℕ) → Bytes new → Bytes old → Bytes (lent a new old)
+lent-bytes Done new old p q = p
+lent-bytes (Refused r) new old p q = q
+
+pub stores-bytes : claim.StoresBytes
+stores-bytes memory layout memory′ r b p =
+    subst Bytes (sym (p .memory-left))
+    (lent-bytes (attestCheck memory layout) (accepted (layoutOf layout) memory) memory (board.bytes-accepted (layoutOf layout) memory b) b)
+
+-- ---- frame
+
+-- challenge and token are read from MR's first 64 bytes
+module _ (l : Layout) (x y : List ℕ) (s : SameRequest l x y) where
+  same-challenge : challenge l x ≡ challenge l y
+  same-challenge =
+      sym (take-take 32 64 (drop (l .mr .lo) x) (omega arith)) ∙ ap (take 32) (s .mail) ∙ take-take 32 64 (drop (l .mr .lo) y) (omega arith)
+
+  same-received : received l x ≡ received l y
+  same-received =
+      read-inside x (l .mr .lo) 64 32 32 (omega arith)
+      ∙ ap (bytesAt 32 32) (s .mail)
+      ∙ sym (read-inside y (l .mr .lo) 64 32 32 (omega arith))
+
+  same-due : due l x ≡ due l y
+  same-due = due-is l x ∙ cc (s .key, same-challenge, s .attested) ∙ sym (due-is l y)
+
+same-check : (layout x y : List ℕ) → SameRequest (layoutOf layout) x y → attestCheck x layout ≡ attestCheck y layout
+unfolding attestCheck
+same-check layout x y s =
+    let l = layoutOf layout in
+    cc (s .long, s .key, s .counter, same-challenge l x y s, same-received l x y s)
+
+module _ (layout x y x′ y′ : List ℕ) (b : Bytes layout) (s : SameRequest (layoutOf layout) x y)
+    (p : Attests x layout x′ Done) (q : Attests y layout y′ Done) where
+  same-replied : replied (layoutOf layout) x′ ≡ replied (layoutOf layout) y′
+  same-replied = replied-due x layout x′ b p ∙ same-due (layoutOf layout) x y s ∙ sym (replied-due y layout y′ b q)
+
+  same-counter : counter (layoutOf layout) x′ ≡ counter (layoutOf layout) y′
+  same-counter = counted x layout x′ b p ∙ same-challenge (layoutOf layout) x y s ∙ sym (counted y layout y′ b q)
+
+  same-stored : (a : ℕ) → storesTo (layoutOf layout) a ≡ true → getD x′ a 0 ≡ getD y′ a 0
+  same-stored a e =
+      let l = layoutOf layout in
+      let r : Region = record { lo = replyAt l; hi = replyAt l + 31 } in
+      cases (within r a)
+      (λ h.
+      let w = within-ends r a h in
+      read-same x′ y′ (replyAt l) 32 same-replied a (w .0) (omega (arith, w .1)))
+      (λ h.
+      let w = within-ends (l .ctr) a (simp h at e) in
+      read-same x′ y′ (l .ctr .lo) (size (l .ctr)) same-counter a (w .0) (omega (arith, w .0, w .1)))
+
+pub frame : claim.Frame
+frame layout x y x′ y′ r q b s p p′ =
+    let f = row-settled r (attestCheck x layout) (p .answered) in
+    let g = row-settled q (attestCheck y layout) (p′ .answered) in
+    let e : r ≡ q = f ∙ same-check layout x y s ∙ sym g in (
+      e,
+      λ d.
+          same-stored layout x y x′ y′ b s (subst (Attests x layout x′) d p) (subst (Attests y layout y′) (sym e ∙ d) p′),
+    )
+
+-- ---- the station
+
+module _ (k c given region : List ℕ) where
+  fit-lengths : Fit k c given region → Lengths k c given region
+  fit-lengths f = record { key = f .0; challenge = f .1; reply = f .2; some = f .3; most = f .4 }
+
+  lengths-fit : Lengths k c given region → Fit k c given region
+  lengths-fit n = (n .key, n .challenge, n .reply, n .some, n .most)
+
+pub yes-exactly : claim.YesExactly
+yes-exactly k c given region v p = (
+  λ e.
+      let y = said-yes (subst (ChecksReply k c given region) e p) in
+      (fit-lengths k c given region (y .0), y .1 ∙ reply-is k c region),
+  λ h. says-yes v p (lengths-fit k c given region (h .0)) (h .1 ∙ sym (reply-is k c region)),
+)
+
+pub refuses-exactly : claim.RefusesExactly
+refuses-exactly k c given region v p =
+    let u = checkUnfit k c given region in (
+      λ e n.
+          clash u (said-refused _ (subst (ChecksReply k c given region) e p)) (check-fits k c given region (lengths-fit k c given region n)),
+      λ f. cases u (λ t. says-refused v p t) (λ t. absurd (f (fit-lengths k c given region (fits-check k c given region t)))),
+    )
+
+pub yes-twice : claim.YesTwice
+yes-twice k c d given x y p q = sym (said-yes p .1) ∙ said-yes q .1
+
+-- ---- board and station agree
+
+module _ (memory layout memory′ : List ℕ) (b : Bytes layout) (p : Attests memory layout memory′ Done) where
+  abbrev l : Layout
+  l = layoutOf layout
+
+  replied-is : replied l memory′ ≡ reply (key l memory) (challenge l memory) (attested l memory)
+  replied-is = replied-due memory layout memory′ b p ∙ due-is l memory
+
+  fit : (expected : List ℕ) → 1 ≤ length expected → length expected ≤ 65536
+      → Fit (key l memory) (challenge l memory) (replied l memory′) expected
+  fit expected some most =
+      let n = allowed memory layout memory′ b p .long in
+      let w = lies memory layout memory′ b p in
+      (board.length-key l w memory n, board.length-challenge l w memory n, ap length replied-is ∙ length-reply _ _ _, some, most)
+
+  agrees : Agrees l memory memory′
+  agrees =
+      let w = lies memory layout memory′ b p in
+      let n = board.length-attested l w memory (allowed memory layout memory′ b p .long) in
+      record {
+        same = λ v q. says-yes v q (fit (attested l memory) (omega (arith, n, w .region)) (omega (arith, n, w .region-in))) replied-is;
+        other = λ expected v some most q. (
+          λ e. sym (said-yes (subst (ChecksReply _ _ _ _) e q) .1) ∙ replied-is,
+          λ e. says-yes v q (fit expected some most) (replied-is ∙ sym e),
+        );
+      }
+
+pub board-and-station : claim.BoardAndStation
+board-and-station memory layout memory′ made r b long good fresh makes came p =
+    let l = layoutOf layout in
+    let w = placed layout b (good-done layout good) in
+    let k = board.length-key l w memory long in
+    let c = board.length-challenge l w memory long in
+    let made-is = gives-bytes makes (token-fits (key l memory) (challenge l memory) k c) in
+    let d : r ≡ Done =
+    accepts-exactly memory layout memory′ r p .1 (long, good, record { fresh = fresh; genuine = came ∙ made-is ∙ token-is _ _ }) in
+    (d, agrees memory layout memory′ b (subst (Attests memory layout memory′) d p))

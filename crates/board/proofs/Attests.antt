@@ -1,5 +1,5 @@
 -- The functions of attestation on plain variables. Assumes nothing.
-use mathlib.Core.Path.{_≡_, refl, sym, ap, subst, _∙_}
+use mathlib.Core.Path.{_≡_, sym, subst, _∙_}
 use mathlib.Core.Bool.{false, _||_}
 use mathlib.Core.List.{List}
 use Prim.Native.Nat.{ℕ, _+_, _≤_}
@@ -19,14 +19,14 @@ use Rattle.layout.specs.declared.Layout.{Layout}
 use Rattle.layout.specs.declared.Checked.the-variants as checked
 use Rattle.layout.specs.Regions.{size}
 use Rattle.layout.specs.Layouts.{AR, layoutOf, layoutCheck}
-use Rattle.layout.specs.Calls.{memoryBytes, callCheck}
+use Rattle.layout.specs.Calls.{memoryBytes}
 use Rattle.layout.specs.Promises.{Admits}
 use Rattle.layout.proofs.Laws.{done-good}
 use Rattle.layout.proofs.Calls.{call-passed, call-rest, call-refused, admitted-good, admitted-refused}
 use Rattle.routine.specs.Routine.{token, replyTo, requestCheck}
 use Rattle.routine.specs.Promises.{RepliesTo, Authorises}
 use Rattle.routine.proofs.Laws.{reply-to-is, request-passed}
-use Rattle.board.specs.Memory.{bytesAt, key, counter, attested, challenge, received, replyAt, Sized}
+use Rattle.board.specs.Memory.{bytesAt, key, counter, attested, challenge, received, Sized}
 use Rattle.board.specs.Attestation.{attestCheck, due, accepted}
 use Rattle.board.specs.Promises.{Attests}
 

@@ -2,16 +2,18 @@
 use mathlib.Core.Path.{_≡_, refl, sym, _∙_}
 use mathlib.Core.Logic.{_⊎_, inl, inr}
 use mathlib.Core.Bool.{true, false}
-use mathlib.Core.List.{List, [], _∷_}
-use Prim.Native.Nat.{ℕ, zero, suc, _+_, _≤_, _<_}
+use mathlib.Core.List.{List}
+use Prim.Native.Nat.{ℕ, _+_, _≤_, _<_}
 use native.Mathlib.Omega.{arith}
 use borrow.Author.Tests.{ltb-true, ltb-false}
 use lib.Dec.{ltb}
-use lib.ListN.{length, getD, take, drop, length-take, length-drop}
-use lib.Seq.{sets, length-sets, getD-drop}
+use lib.ListN.{length, getD, length-take, length-drop}
+use lib.Seq.{sets, length-sets}
 use Rattle.refusal.specs.Bytes.{Bytes}
-use Rattle.refusal.specs.Numbers.{tokenDiffers}
-use Rattle.refusal.specs.declared.Answer.the-variants.{Done}
+use Rattle.refusal.specs.Numbers.{memorySize, regionsShare, challengeNotGreater, tokenDiffers}
+use Rattle.refusal.specs.Settled.{row-settled}
+use Rattle.refusal.specs.declared.Refusal.{Refusal}
+use Rattle.refusal.specs.declared.Answer.the-variants.{Done, Refused}
 use Rattle.refusal.proofs.Tests.{cases, neither, clash}
 use Rattle.refusal.proofs.Order.{Refuses}
 use Rattle.layout.specs.declared.Region.{Region}
@@ -27,7 +29,8 @@ use Rattle.routine.specs.Routine.{token, reply}
 use Rattle.routine.proofs.Laws.{length-reply, request-passed, request-passes, bytes-reply, request-numbers}
 use Rattle.board.specs.Memory.{bytesAt, bytesOf, key, counter, attested, challenge, received, replyAt, replied}
 use Rattle.board.specs.Attestation.{attestCheck, due, accepted, storesTo}
-use Rattle.board.proofs.Stores.{Off, bytes-agree, stored-there, stored-off, stored-apart, bytes-stored, bytes-read}
+use Rattle.board.specs.Promises.{Attests}
+use Rattle.board.proofs.Stores.{bytes-agree, stored-there, stored-off, stored-apart, bytes-stored, bytes-read}
 
 -- ---- what is read
 
@@ -43,6 +46,10 @@ region-agrees r x y e f =
 pub due-is : (l : Layout) (memory : List ℕ) → due l memory ≡ reply (key l memory) (challenge l memory) (attested l memory)
 unfolding due
 due-is l memory = refl
+
+pub bytes-due : (l : Layout) (memory : List ℕ) → Bytes (due l memory)
+unfolding due
+bytes-due l memory = bytes-reply _ _ _
 
 pub length-due : (l : Layout) (memory : List ℕ) → length (due l memory) ≡ 32
 unfolding due
@@ -127,8 +134,25 @@ pub allowed-done : (memory layout : List ℕ) → Allowed memory layout → atte
 unfolding attestCheck
 allowed-done memory layout a = call-rest memory layout _ (a .long) (a .laid) ∙ request-passes _ _ _ _ (a .fresh) (a .genuine)
 
--- the others are refused with 1 to 11
-pub attest-numbers : (memory layout : List ℕ) → Refuses (λ n. n ≤ tokenDiffers) (attestCheck memory layout)
+-- the others are refused with 1 to 6, 10 or 11
+abbrev pub Listed : ℕ → Type 0
+Listed n = ((memorySize ≤ n) × (n ≤ regionsShare)) ⊎ ((challengeNotGreater ≤ n) × (n ≤ tokenDiffers))
+
+pub attest-numbers : (memory layout : List ℕ) → Refuses Listed (attestCheck memory layout)
 unfolding attestCheck
 attest-numbers memory layout =
-    call-numbers memory layout _ tokenDiffers (omega arith) (λ r e. request-numbers _ _ _ _ r e .1)
+    call-numbers Listed memory layout _ (λ n p q. inl (p, q)) (λ r e. inr (request-numbers _ _ _ _ r e))
+
+-- ---- a call by its answer
+
+pub attested-done : (memory layout memory′ : List ℕ) → Attests memory layout memory′ Done
+    → Allowed memory layout × (memory′ ≡ accepted (layoutOf layout) memory)
+attested-done memory layout memory′ p =
+    let e : attestCheck memory layout ≡ Done = sym (row-settled Done (attestCheck memory layout) (p .answered)) in
+    (done-allowed memory layout e, p .memory-left ∙ simp e)
+
+pub attested-refused : (memory layout memory′ : List ℕ) (q : Refusal) → Attests memory layout memory′ (Refused q)
+    → Listed (q .number) × (memory′ ≡ memory)
+attested-refused memory layout memory′ q p =
+    let e : attestCheck memory layout ≡ Refused q = sym (row-settled (Refused q) (attestCheck memory layout) (p .answered)) in
+    (attest-numbers memory layout q e, p .memory-left ∙ simp e)

@@ -26,9 +26,9 @@ use Rattle.board.specs.Attestation.{attestCheck, due, accepted, storesTo}
 use Rattle.board.specs.Promises.{Attests}
 use Rattle.board.proofs.Stores.{read-same, read-inside}
 use Rattle.board.proofs.Laws as board
-use Rattle.board.proofs.Laws.{Allowed, done-allowed, allowed-done, attest-numbers, due-is}
+use Rattle.board.proofs.Laws.{Allowed, done-allowed, allowed-done, attested-done, attested-refused, due-is}
 use Rattle.station.specs.Promises.{checkUnfit, ChecksReply}
-use Rattle.station.proofs.Laws.{Fit, token-fits, check-fits, fits-check, said-yes, says-yes, said-refused, says-refused}
+use Rattle.station.proofs.Laws.{Fit, token-fits, check-fits, fits-check, said-yes, says-yes, said-no, says-no, said-refused, says-refused}
 use Rattle.demands.specs.Demand2 as claim
 use Rattle.demands.specs.Demand2.{Answers, SameRequest, Lengths, Agrees}
 
@@ -51,14 +51,11 @@ accepts-exactly memory layout memory′ r p =
 
 -- an accepted call
 module _ (memory layout memory′ : List ℕ) (b : Bytes layout) (p : Attests memory layout memory′ Done) where
-  check-done : attestCheck memory layout ≡ Done
-  check-done = sym (row-settled Done (attestCheck memory layout) (p .answered))
-
   allowed : Allowed memory layout
-  allowed = done-allowed memory layout check-done
+  allowed = attested-done memory layout memory′ p .0
 
   left : memory′ ≡ accepted (layoutOf layout) memory
-  left = p .memory-left ∙ simp check-done
+  left = attested-done memory layout memory′ p .1
 
   lies : Placed (layoutOf layout)
   lies = placed layout b (allowed .laid)
@@ -84,9 +81,7 @@ pub answers-so : claim.AnswersSo
 answers-so = answers
 
 pub refuses-so : claim.RefusesSo
-refuses-so memory layout memory′ q p =
-    let e : attestCheck memory layout ≡ Refused q = sym (row-settled (Refused q) (attestCheck memory layout) (p .answered)) in
-    (p .memory-left ∙ simp e, λ n. let h = attest-numbers memory layout q e in omega arith)
+refuses-so = attested-refused
 
 lent-bytes : (a : Answer) (new old : List ℕ) → Bytes new → Bytes old → Bytes (lent a new old)
 lent-bytes Done new old p q = p
@@ -165,6 +160,14 @@ yes-exactly k c given region v p = (
       let y = said-yes (subst (ChecksReply k c given region) e p) in
       (fit-lengths k c given region (y .0), y .1 ∙ reply-is k c region),
   λ h. says-yes v p (lengths-fit k c given region (h .0)) (h .1 ∙ sym (reply-is k c region)),
+)
+
+pub no-exactly : claim.NoExactly
+no-exactly k c given region v p = (
+  λ e.
+      let n = said-no (subst (ChecksReply k c given region) e p) in
+      (fit-lengths k c given region (n .0), λ h. n .1 (h ∙ sym (reply-is k c region))),
+  λ h. says-no v p (lengths-fit k c given region (h .0)) (λ e. h .1 (e ∙ reply-is k c region)),
 )
 
 pub refuses-exactly : claim.RefusesExactly

@@ -10,8 +10,6 @@ use lib.ListN.{length, getD}
 use borrow.Author.Tests.{eqb-true, eqb-false, ltb-true, ltb-false}
 use Rattle.refusal.specs.Bytes.{Bytes}
 use Rattle.refusal.specs.Answers.{lent}
-use Rattle.refusal.specs.Settled.{row-settled}
-use Rattle.refusal.specs.declared.Refusal.{Refusal}
 use Rattle.refusal.specs.declared.Answer.{Answer}
 use Rattle.refusal.specs.declared.Answer.the-variants.{Done, Refused}
 use Rattle.refusal.proofs.Tests.{cases, clash, untrue}
@@ -21,18 +19,15 @@ use Rattle.layout.specs.Layouts.{layoutOf}
 use Rattle.layout.specs.Calls.{callCheck}
 use Rattle.layout.proofs.Placed.{placed}
 use Rattle.rules.specs.declared.Step.{Step}
-use Rattle.rules.specs.declared.Monitor.{Monitor}
-use Rattle.monitor.specs.declared.Stepped.{Stepped}
 use Rattle.monitor.specs.Effects.{written}
 use Rattle.monitor.specs.Runs.{State, count, steps, begin, before, memoryAfter}
-use Rattle.monitor.specs.Promises.{traceCheck, stepCheck, Steps}
+use Rattle.monitor.specs.Promises.{traceCheck, stepCheck}
 use Rattle.routine.specs.Strings.{greater}
 use Rattle.routine.proofs.Order.{greater-irreflexive, greater-trans, number-greater}
 use Rattle.board.specs.Memory.{counter, challenge}
-use Rattle.board.specs.Attestation.{attestCheck}
 use Rattle.board.specs.Promises.{Attests}
 use Rattle.board.proofs.Stores.{bytes-read}
-use Rattle.board.proofs.Laws.{region-agrees, length-challenge, accepted-counter, done-allowed}
+use Rattle.board.proofs.Laws.{region-agrees, length-challenge, accepted-counter, attested-done, attested-refused}
 use Rattle.demands.specs.Traces.{remembers, byteAt}
 use Rattle.demands.specs.History as claim
 use Rattle.demands.specs.History.{Event, attest, trace, change, Keeps, storesCounter, Happens, History, Accepted, counterAt}
@@ -82,10 +77,7 @@ trace-keeps memory layout b room memory′ room′ r t f =
     lent-keeps l (callCheck memory layout (traceCheck b (length room))) memory (memoryAfter l b memory) memory′ (t .memory-left)
     (run-keeps l (steps b) (begin memory) (count b) f)
 
--- so does a one-step call in which it leaves CTR alone: in a history that is a `change`
-pub step-keeps : (memory layout step : List ℕ) (m : Monitor) (room memory′ room′ : List ℕ) (r : Stepped)
-    → Steps memory layout step m room memory′ room′ r → storesCounter (layoutOf layout) m (steps step 0) ≡ false
-    → Keeps (layoutOf layout) memory memory′
+pub step-keeps : claim.StepKeeps
 unfolding before
 step-keeps memory layout step m room memory′ room′ r p e =
     let l = layoutOf layout in
@@ -104,19 +96,14 @@ record Advances (l : Layout) (x y : List ℕ) : Type 0 where
 advances : (layout x y : List ℕ) → Bytes layout → Attests x layout y Done → Advances (layoutOf layout) x y
 advances layout x y h p =
     let l = layoutOf layout in
-    let d : attestCheck x layout ≡ Done = sym (row-settled Done (attestCheck x layout) (p .answered)) in
-    let a = done-allowed x layout d in
+    let d = attested-done x layout y p in
+    let a = d .0 in
     let q = placed layout h (a .laid) in
     record {
       fresh = a .fresh;
-      counted = ap (λ (m : List ℕ). counter l m) (p .memory-left ∙ simp d) ∙ accepted-counter l q x (a .long);
+      counted = ap (λ (m : List ℕ). counter l m) (d .1) ∙ accepted-counter l q x (a .long);
       long = length-challenge l q x (a .long);
     }
-
-refused-left : (layout x y : List ℕ) (r : Refusal) → Attests x layout y (Refused r) → y ≡ x
-refused-left layout x y r p =
-    let d : attestCheck x layout ≡ Refused r = sym (row-settled (Refused r) (attestCheck x layout) (p .answered)) in
-    p .memory-left ∙ simp d
 
 -- b is a or greater
 abbrev Rises : List ℕ → List ℕ → Type 0
@@ -135,7 +122,7 @@ event-rises layout h (attest Done) x y p =
     let a = advances layout x y h p in
     inr (rw (a .counted) (a .fresh))
 event-rises layout h (attest (Refused r)) x y p =
-    inl (ap (λ (m : List ℕ). counter (layoutOf layout) m) (refused-left layout x y r p))
+    inl (ap (λ (m : List ℕ). counter (layoutOf layout) m) (attested-refused x layout y r p .1))
 event-rises layout h (trace b r) x y p =
     inl (trace-keeps x layout b (p .0 .0) y (p .0 .1) r (p .0 .2) (p .1) .counter)
 event-rises layout h change x y p = inl (p .counter)
@@ -145,13 +132,13 @@ event-rises layout h change x y p = inl (p .counter)
 pub counter-rises : claim.CounterRises
 counter-rises layout events memories n s i zero h k =
     let e : 0 ≡ i = omega arith in
-    inl (ap (λ (m : ℕ). counterAt layout events memories m) e)
+    inl (ap (λ (m : ℕ). counterAt layout memories m) e)
 counter-rises layout events memories n s i (suc j) h k =
     cases (eqb i (suc j))
-    (λ t. inl (ap (λ (m : ℕ). counterAt layout events memories m) (sym (eqb-true i (suc j) t))))
+    (λ t. inl (ap (λ (m : ℕ). counterAt layout memories m) (sym (eqb-true i (suc j) t))))
     (λ t.
     let o : i ≢ suc j = eqb-false i (suc j) t in
-    rises-on (counterAt layout events memories i) (counterAt layout events memories j) (counterAt layout events memories (suc j))
+    rises-on (counterAt layout memories i) (counterAt layout memories j) (counterAt layout memories (suc j))
     (counter-rises layout events memories n s i j (omega arith) (omega arith))
     (event-rises layout (s .layoutBytes) (events j) (memories j) (memories (suc j)) (s .happens j k)))
 
@@ -161,8 +148,8 @@ greater-rises a b c p g = elim p [ inl e ↦ rw (← e) g | inr f ↦ greater-tr
 
 pub old-stays-old : claim.OldStaysOld
 old-stays-old layout events memories n s i j h k c e =
-    let a = counterAt layout events memories i in
-    let b = counterAt layout events memories j in
+    let a = counterAt layout memories i in
+    let b = counterAt layout memories j in
     untrue (greater c b) (λ g. clash (greater c a) (greater-rises a b c (counter-rises layout events memories n s i j h k) g) e)
 
 accepted-advances : (layout : List ℕ) (events : ℕ → Event) (memories : ℕ → List ℕ) (n : ℕ) → History layout events memories n
@@ -177,7 +164,7 @@ increase layout events memories n s i j c d h k a b =
     let p = accepted-advances layout events memories n s i c (omega arith) a in
     let q = accepted-advances layout events memories n s j d k b in
     rw (a .request, b .request, ← p .counted)
-    (greater-rises (counterAt layout events memories (suc i)) (counterAt layout events memories j)
+    (greater-rises (counterAt layout memories (suc i)) (counterAt layout memories j)
     (challenge (layoutOf layout) (memories j)) (counter-rises layout events memories n s (suc i) j h (omega arith)) (q .fresh))
 
 pub numbers-increase : claim.NumbersIncrease

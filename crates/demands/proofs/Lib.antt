@@ -12,3 +12,4 @@ pub mod Exact
 pub mod Witness
 pub mod History
 pub mod Visit
+pub mod Script

@@ -2,7 +2,7 @@
 -- over HMAC-SHA-256; the station says yes exactly to the reply that the routine works out.
 -- Definitions and claims; the proofs are in proofs/: Decisions and Demand2. Assumes nothing.
 use mathlib.Core.Path.{_≡_}
-use mathlib.Core.Logic.{_≢_, _↔_}
+use mathlib.Core.Logic.{_≢_, _⊎_, _↔_}
 use mathlib.Core.Bool.{true, false, not}
 use mathlib.Core.List.{List}
 use Prim.Native.Nat.{ℕ, zero, suc, _+_, _*_, _≤_, _<_}
@@ -10,7 +10,7 @@ use lib.Dec.{eqb}
 use lib.ListN.{length, getD}
 use Rattle.refusal.specs.Bytes.{Bytes}
 use Rattle.refusal.specs.Choice.{pick}
-use Rattle.refusal.specs.Numbers.{lengthOrTotal}
+use Rattle.refusal.specs.Numbers.{memorySize, regionsShare, challengeNotGreater, tokenDiffers, lengthOrTotal}
 use Rattle.refusal.specs.declared.Refusal.{Refusal}
 use Rattle.refusal.specs.declared.Answer.{Answer}
 use Rattle.refusal.specs.declared.Answer.the-variants as call
@@ -34,7 +34,7 @@ use Rattle.board.specs.Memory.{bytesAt, key, counter, attested, challenge, rece
 use Rattle.board.specs.Attestation.{storesTo}
 use Rattle.board.specs.Promises.{Attests}
 use Rattle.station.specs.declared.Verdict.{Verdict}
-use Rattle.station.specs.declared.Verdict.the-variants.{Yes, Refused}
+use Rattle.station.specs.declared.Verdict.the-variants.{Yes, No, Refused}
 use Rattle.station.specs.Promises.{MakesToken, ChecksReply}
 
 -- ---- the reset decision
@@ -111,11 +111,12 @@ AnswersSo =
     (memory layout memory′ : List ℕ) → Bytes layout → Attests memory layout memory′ call.Done
     → Answers (layoutOf layout) memory memory′
 
--- a refused call changes nothing, and is never refused for a length
+-- a refused call has the number 1 to 6, 10 or 11, so never that of a length, and changes nothing
 abbrev pub RefusesSo : Type 0
 RefusesSo =
     (memory layout memory′ : List ℕ) (q : Refusal) → Attests memory layout memory′ (call.Refused q)
-    → (memory′ ≡ memory) × (q .number ≢ lengthOrTotal)
+    → (((memorySize ≤ q .number) × (q .number ≤ regionsShare)) ⊎ ((challengeNotGreater ≤ q .number) × (q .number ≤ tokenDiffers)))
+    × (memory′ ≡ memory)
 
 -- what it stores are bytes
 abbrev pub StoresBytes : Type 0
@@ -154,6 +155,12 @@ abbrev pub YesExactly : Type 0
 YesExactly =
     (k challenge given region : List ℕ) (v : Verdict) → ChecksReply k challenge given region v
     → (v ≡ Yes) ↔ (Lengths k challenge given region × (given ≡ hmac (hmac k (hmac k challenge)) region))
+
+-- no exactly to every other
+abbrev pub NoExactly : Type 0
+NoExactly =
+    (k challenge given region : List ℕ) (v : Verdict) → ChecksReply k challenge given region v
+    → (v ≡ No) ↔ (Lengths k challenge given region × (given ≢ hmac (hmac k (hmac k challenge)) region))
 
 -- and refuses exactly the wrong lengths
 abbrev pub RefusesExactly : Type 0

@@ -15,9 +15,10 @@ use Rattle.layout.specs.Regions.{within}
 use Rattle.rules.specs.declared.Step.{Step}
 use Rattle.rules.specs.declared.Monitor.{Monitor}
 use Rattle.rules.specs.Rules.{cpuWrites, resets}
+use Rattle.monitor.specs.declared.Stepped.{Stepped}
 use Rattle.monitor.specs.declared.Traced.{Traced}
 use Rattle.monitor.specs.Runs.{count, steps, begin, before}
-use Rattle.monitor.specs.Promises.{Traces}
+use Rattle.monitor.specs.Promises.{Steps, Traces}
 use Rattle.routine.specs.Strings.{greater, number}
 use Rattle.board.specs.Memory.{bytesOf, key, counter, challenge}
 use Rattle.board.specs.Promises.{Attests}
@@ -61,6 +62,13 @@ TraceKeeps =
     (memory layout b room memory′ room′ : List ℕ) (r : Traced) → Traces memory layout b room memory′ room′ r
     → CounterLeft (layoutOf layout) b memory → Keeps (layoutOf layout) memory memory′
 
+-- so does a step judged by itself, which counts as any other event
+abbrev pub StepKeeps : Type 0
+StepKeeps =
+    (memory layout step : List ℕ) (m : Monitor) (room memory′ room′ : List ℕ) (r : Stepped)
+    → Steps memory layout step m room memory′ room′ r → storesCounter (layoutOf layout) m (steps step 0) ≡ false
+    → Keeps (layoutOf layout) memory memory′
+
 -- n events one after another: memories i is the memory before event i
 pub record History (layout : List ℕ) (events : ℕ → Event) (memories : ℕ → List ℕ) (n : ℕ) : Type 0 where
   pub layoutBytes : Bytes layout
@@ -74,16 +82,16 @@ module _ (layout : List ℕ) (events : ℕ → Event) (memories : ℕ → List �
     pub event : events i ≡ attest Done
     pub request : c ≡ challenge (layoutOf layout) (memories i)
 
-  -- the counter before event i
-  abbrev pub counterAt : ℕ → List ℕ
-  counterAt i = counter (layoutOf layout) (memories i)
+-- the counter before event i
+abbrev pub counterAt : List ℕ → (ℕ → List ℕ) → ℕ → List ℕ
+counterAt layout memories i = counter (layoutOf layout) (memories i)
 
 -- a challenge that is not greater than the counter is never again
 abbrev pub OldStaysOld : Type 0
 OldStaysOld =
     (layout : List ℕ) (events : ℕ → Event) (memories : ℕ → List ℕ) (n : ℕ) → History layout events memories n
     → (i j : ℕ) → i ≤ j → j ≤ n → (c : List ℕ)
-    → greater c (counterAt layout events memories i) ≡ false → greater c (counterAt layout events memories j) ≡ false
+    → greater c (counterAt layout memories i) ≡ false → greater c (counterAt layout memories j) ≡ false
 
 -- accepted challenges strictly increase
 abbrev pub Increase : Type 0
@@ -118,5 +126,5 @@ abbrev pub CounterRises : Type 0
 CounterRises =
     (layout : List ℕ) (events : ℕ → Event) (memories : ℕ → List ℕ) (n : ℕ) → History layout events memories n
     → (i j : ℕ) → i ≤ j → j ≤ n
-    → (counterAt layout events memories j ≡ counterAt layout events memories i)
-    ⊎ (greater (counterAt layout events memories j) (counterAt layout events memories i) ≡ true)
+    → (counterAt layout memories j ≡ counterAt layout memories i)
+    ⊎ (greater (counterAt layout memories j) (counterAt layout memories i) ≡ true)

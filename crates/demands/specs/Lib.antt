@@ -6,3 +6,4 @@ pub mod Demand3
 pub mod Witness
 pub mod History
 pub mod Visit
+pub mod Script

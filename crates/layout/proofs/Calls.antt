@@ -1,5 +1,5 @@
 -- The check that comes first in a call on a board's memory: what has passed, and what follows. Assumes nothing.
-use mathlib.Core.Path.{_≡_, refl, ap}
+use mathlib.Core.Path.{_≡_, ap}
 use mathlib.Core.Bool.{Bool, true, false, not}
 use mathlib.Core.List.{List}
 use Prim.Native.Nat.{ℕ, _≤_}
@@ -44,12 +44,12 @@ pub call-refused : (memory layout : List ℕ) (rest : Answer) (q : Refusal) → 
 call-refused memory layout rest q e =
     refused-anyway (not (eqb (length memory) memoryBytes)) _ q (layoutCheck layout) rest e
 
--- the numbers that a call is refused with go no further than the rest's
-pub call-numbers : (memory layout : List ℕ) (rest : Answer) (most : ℕ) → regionsShare ≤ most
-    → Refuses (λ n. n ≤ most) rest → Refuses (λ n. n ≤ most) (callCheck memory layout rest)
-call-numbers memory layout rest most h f =
-    refuses-test (λ n. n ≤ most) (not (eqb (length memory) memoryBytes)) memorySize 0 (andThen (layoutCheck layout) rest) (omega arith)
-    (refuses-then (λ n. n ≤ most) (layoutCheck layout) rest (λ r e. let p = layout-numbers layout r e .1 in omega arith) f)
+-- a call is refused with 1 to 6, or with a number of the rest
+pub call-numbers : (P : ℕ → Type 0) (memory layout : List ℕ) (rest : Answer)
+    → ((n : ℕ) → memorySize ≤ n → n ≤ regionsShare → P n) → Refuses P rest → Refuses P (callCheck memory layout rest)
+call-numbers P memory layout rest h f =
+    refuses-test P (not (eqb (length memory) memoryBytes)) memorySize 0 (andThen (layoutCheck layout) rest) (h memorySize (omega arith) (omega arith))
+    (refuses-then P (layoutCheck layout) rest (λ r e. let p = layout-numbers layout r e in h (r .number) (omega (arith, p .0)) (p .1)) f)
 
 -- `admit`, on plain variables
 module _ (memory layout : List ℕ) (rest : Answer) (long : length memory ≡ memoryBytes) where

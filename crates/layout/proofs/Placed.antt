@@ -1,7 +1,6 @@
 -- Where the regions of attestation lie in a board's memory. Assumes nothing.
 use mathlib.Core.Path.{_≡_, refl}
 use mathlib.Core.Logic.{_⊎_, inl, inr}
-use mathlib.Core.Bool.{true, false}
 use mathlib.Core.List.{List}
 use Prim.Native.Nat.{ℕ, _+_, _*_, _≤_, _<_}
 use native.Mathlib.Omega.{arith}
@@ -11,7 +10,7 @@ use Rattle.refusal.specs.Bytes.{Bytes}
 use Rattle.refusal.specs.declared.Answer.the-variants.{Done}
 use Rattle.refusal.proofs.Tests.{cases}
 use Rattle.layout.specs.declared.Layout.{Layout}
-use Rattle.layout.specs.Regions.{within, size}
+use Rattle.layout.specs.Regions.{size}
 use Rattle.layout.specs.Layouts.{KR, MR, CTR, AR, region, layoutOf, layoutCheck}
 use Rattle.layout.specs.Calls.{memoryBytes}
 use Rattle.layout.specs.Good.{Good}

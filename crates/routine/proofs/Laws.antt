@@ -1,6 +1,6 @@
 -- The laws of the routine, for readers and for the crates above. Assumes nothing.
 use mathlib.Core.Path.{_≡_, refl, sym, ap}
-use mathlib.Core.Bool.{Bool, true, false, not}
+use mathlib.Core.Bool.{true, not}
 use mathlib.Core.List.{List}
 use Prim.Native.Nat.{ℕ, _≤_}
 use native.Mathlib.Omega.{arith}
@@ -45,7 +45,7 @@ unfolding hmac
 bytes-hmac k m = bytes-sha256 _
 
 pub bytes-reply : (k challenge region : List ℕ) → Bytes (reply k challenge region)
-unfolding reply
+unfolding reply replyTo
 bytes-reply k challenge region = bytes-hmac _ region
 
 -- ---- steps 1 and 2

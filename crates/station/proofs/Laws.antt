@@ -1,5 +1,6 @@
 -- What the station's answers mean, for readers and for the crates above. Assumes nothing.
 use mathlib.Core.Path.{_≡_, refl, _∙_}
+use mathlib.Core.Logic.{_≢_}
 use mathlib.Core.Bool.{Bool, true, false, _||_}
 use mathlib.Core.List.{List, [], _∷_}
 use Prim.Native.Nat.{ℕ, _≤_}
@@ -12,12 +13,12 @@ use Rattle.refusal.specs.Answers.{refusedAt, told}
 use Rattle.refusal.specs.Numbers.{lengthOrTotal}
 use Rattle.refusal.specs.declared.Refusal.{Refusal}
 use Rattle.refusal.specs.declared.Answer.the-variants as call
-use Rattle.refusal.proofs.Tests.{neither}
+use Rattle.refusal.proofs.Tests.{neither, clash, untrue}
 use Rattle.routine.specs.Strings.{same}
 use Rattle.routine.specs.Routine.{reply}
 use Rattle.routine.proofs.Order.{same-equal, equal-same}
 use Rattle.station.specs.declared.Verdict.{Verdict}
-use Rattle.station.specs.declared.Verdict.the-variants.{Yes, Refused}
+use Rattle.station.specs.declared.Verdict.the-variants.{Yes, No, Refused}
 use Rattle.station.specs.Promises.{notOf, tokenUnfit, checkUnfit, row, ChecksReply}
 use Rattle.station.specs.Settled.{verdict-settled}
 
@@ -65,6 +66,11 @@ told-yes true s e = absurd (let z : _≡_ {A = ℕ} 0 12 = cc in omega arith)
 told-yes false true e = (refl, refl)
 told-yes false false e = absurd (let z : _≡_ {A = ℕ} 1 0 = cc in omega arith)
 
+told-no : (t s : Bool) → row No ≡ says t s → (t ≡ false) × (s ≡ false)
+told-no true s e = absurd (let z : _≡_ {A = ℕ} 0 12 = cc in omega arith)
+told-no false true e = absurd (let z : _≡_ {A = ℕ} 0 1 = cc in omega arith)
+told-no false false e = (refl, refl)
+
 told-refused : (t s : Bool) (r : Refusal) → row (Refused r) ≡ says t s → t ≡ true
 told-refused true s r e = refl
 told-refused false true r e = absurd (let z : _≡_ {A = ℕ} 0 1 = cc in omega arith)
@@ -81,6 +87,19 @@ module _ {k challenge given region : List ℕ} where
   says-yes v p f e =
       verdict-settled v Yes
       (p .answered ∙ simp (check-fits k challenge given region f, equal-same given (reply k challenge region) e))
+
+  pub said-no : ChecksReply k challenge given region No → Fit k challenge given region × (given ≢ reply k challenge region)
+  said-no p =
+      let q = told-no (checkUnfit k challenge given region) (same given (reply k challenge region)) (p .answered) in (
+        fits-check k challenge given region (q .0),
+        λ e. clash (same given (reply k challenge region)) (equal-same given (reply k challenge region) e) (q .1),
+      )
+
+  pub says-no : (v : Verdict) → ChecksReply k challenge given region v
+      → Fit k challenge given region → given ≢ reply k challenge region → v ≡ No
+  says-no v p f n =
+      let s = untrue (same given (reply k challenge region)) (λ e. n (same-equal given (reply k challenge region) e)) in
+      verdict-settled v No (p .answered ∙ simp (check-fits k challenge given region f, s))
 
   pub said-refused : (r : Refusal) → ChecksReply k challenge given region (Refused r) → checkUnfit k challenge given region ≡ true
   said-refused r p = told-refused (checkUnfit k challenge given region) (same given (reply k challenge region)) r (p .answered)

@@ -1,0 +1,75 @@
+-- Attestation as a trace: the bytes of a visit that makes the stores of an accepted call, given to the monitor.
+-- Definitions and claims; the proofs are in proofs/Script.antt. Assumes nothing.
+use mathlib.Core.Path.{_≡_}
+use mathlib.Core.Bool.{false}
+use mathlib.Core.List.{List, [], _∷_, _++_}
+use Prim.Native.Nat.{ℕ, zero, suc, _+_, _*_, _/_, _%_, _≤_, _<_}
+use lib.Dec.{ltb}
+use lib.ListN.{length}
+use Rattle.refusal.specs.Bytes.{Bytes}
+use Rattle.refusal.specs.Choice.{pick}
+use Rattle.refusal.specs.declared.Answer.the-variants.{Done}
+use Rattle.layout.specs.declared.Layout.{Layout}
+use Rattle.layout.specs.Layouts.{layoutOf}
+use Rattle.rules.specs.declared.Step.{Step}
+use Rattle.monitor.specs.declared.Traced.{Traced}
+use Rattle.monitor.specs.declared.Traced.the-variants as traced
+use Rattle.monitor.specs.Runs.{steps, before}
+use Rattle.monitor.specs.Promises.{Traces}
+use Rattle.board.specs.Promises.{Attests}
+use Rattle.demands.specs.Visit.{played}
+
+-- a step's 12 bytes
+abbrev pub flags : Step → ℕ
+flags s =
+    pick (s .reads) 1 0 + 2 * pick (s .writes) 1 0 + 4 * pick (s .interrupt) 1 0 + 8 * pick (s .active) 1 0 + 16 * pick (s .stores) 1 0
+
+abbrev pub encode : Step → List ℕ
+encode s =
+    s .pc % 256 ∷ s .pc / 256 ∷ s .cpu % 256 ∷ s .cpu / 256 ∷ s .dma % 256 ∷ s .dma / 256
+    ∷ flags s ∷ s .cpudata ∷ s .dmadata ∷ 0 ∷ 0 ∷ 0 ∷ []
+
+-- those of n steps
+unfoldable pub encoded : (ℕ → Step) → ℕ → List ℕ
+encoded t zero = []
+encoded t (suc n) = encoded t n ++ encode (t n)
+
+-- they tell these steps
+abbrev pub TellsSteps : Type 0
+TellsSteps = (t : ℕ → Step) (n i : ℕ) → i < n → steps (encoded t n) i ≡ t i
+
+-- a step with PC 0 that accesses nothing
+abbrev pub away : Step
+away = record {
+  pc = 0;
+  cpu = 0;
+  dma = 0;
+  reads = false;
+  writes = false;
+  interrupt = false;
+  active = false;
+  stores = false;
+  cpudata = 0;
+  dmadata = 0;
+}
+
+-- the visit of an accepted call, with one such step before it and one behind it
+abbrev pub scripted : Layout → List ℕ → ℕ → Step
+scripted l memory zero = away
+scripted l memory (suc i) = pick (ltb i 64) (played l memory i) away
+
+abbrev pub script : Layout → List ℕ → List ℕ
+script l memory = encoded (scripted l memory) 66
+
+-- for every accepted call, this trace is bytes
+abbrev pub ScriptBytes : Type 0
+ScriptBytes =
+    (memory layout memory′ : List ℕ) → Bytes layout → Bytes memory → Attests memory layout memory′ Done
+    → Bytes (script (layoutOf layout) memory)
+
+-- and a call of `trace` with it and room for its answers is not refused, resets at no step and leaves the memory that `attest` leaves
+abbrev pub TraceAttests : Type 0
+TraceAttests =
+    (memory layout memory′ room memory″ room′ : List ℕ) (r : Traced) → Bytes layout → Attests memory layout memory′ Done
+    → Traces memory layout (script (layoutOf layout) memory) room memory″ room′ r → 264 ≤ length room
+    → (r ≡ traced.Judged (record { steps = 66; resets = 0 })) × (memory″ ≡ memory′)

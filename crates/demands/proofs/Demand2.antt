@@ -1,11 +1,12 @@
 -- The routine on the board, the station, and both together: the claims of demand 2. Assumes nothing.
 use mathlib.Core.Path.{_≡_, sym, ap, subst, _∙_}
+use mathlib.Core.Logic.{_⊎_, inl, inr}
 use mathlib.Core.Bool.{true}
 use mathlib.Core.List.{List}
 use Prim.Native.Nat.{ℕ, _+_, _≤_}
 use native.Mathlib.Omega.{arith}
 use lib.ListN.{length, getD, take, drop}
-use lib.Seq.{take-take}
+use lib.Seq.{take-take, sets, length-sets}
 use Rattle.refusal.specs.Bytes.{Bytes}
 use Rattle.refusal.specs.Answers.{lent}
 use Rattle.refusal.specs.Settled.{row-settled}
@@ -16,21 +17,24 @@ use Rattle.layout.specs.declared.Region.{Region}
 use Rattle.layout.specs.declared.Layout.{Layout}
 use Rattle.layout.specs.Regions.{within, size}
 use Rattle.layout.specs.Layouts.{layoutOf}
+use Rattle.layout.specs.Good.{Good}
+use Rattle.layout.specs.Calls.{memoryBytes}
 use Rattle.layout.proofs.Laws.{done-good, good-done, within-ends}
+use Rattle.layout.proofs.Calls.{call-rest}
 use Rattle.layout.proofs.Placed.{Placed, placed}
 use Rattle.sha256.proofs.Laws.{gives-bytes}
-use Rattle.routine.specs.Routine.{reply}
-use Rattle.routine.proofs.Laws.{token-is, reply-is, length-reply}
+use Rattle.routine.specs.Routine.{reply, requestCheck}
+use Rattle.routine.proofs.Laws.{token-is, reply-is, length-hmac, length-reply, request-old, request-forged}
 use Rattle.board.specs.Memory.{bytesAt, key, counter, attested, challenge, received, replyAt, replied}
 use Rattle.board.specs.Attestation.{attestCheck, due, accepted, storesTo}
 use Rattle.board.specs.Promises.{Attests}
-use Rattle.board.proofs.Stores.{read-same, read-inside}
+use Rattle.board.proofs.Stores.{read-same, read-inside, stored-there, stored-apart}
 use Rattle.board.proofs.Laws as board
 use Rattle.board.proofs.Laws.{Allowed, done-allowed, allowed-done, attested-done, attested-refused, due-is}
 use Rattle.station.specs.Promises.{checkUnfit, ChecksReply}
 use Rattle.station.proofs.Laws.{Fit, token-fits, check-fits, fits-check, said-yes, says-yes, said-no, says-no, said-refused, says-refused}
 use Rattle.demands.specs.Demand2 as claim
-use Rattle.demands.specs.Demand2.{Answers, SameRequest, Lengths, Agrees}
+use Rattle.demands.specs.Demand2.{Answers, SameRequest, Lengths, Agrees, posted}
 
 -- ---- the routine, on the board
 
@@ -82,6 +86,21 @@ answers-so = answers
 
 pub refuses-so : claim.RefusesSo
 refuses-so = attested-refused
+
+-- by steps 1 and 2
+request-refused : (memory layout memory′ : List ℕ) (r q : Answer) → Attests memory layout memory′ r
+    → length memory ≡ memoryBytes → Good layout
+    → (let l = layoutOf layout in requestCheck (key l memory) (challenge l memory) (received l memory) (counter l memory)) ≡ q → r ≡ q
+unfolding attestCheck
+request-refused memory layout memory′ r q p long good e =
+    row-settled r (attestCheck memory layout) (p .answered) ∙ call-rest memory layout _ long (good-done layout good) ∙ e
+
+pub old-refused : claim.OldRefused
+old-refused memory layout memory′ r p long good g = request-refused memory layout memory′ r _ p long good (request-old _ _ _ _ g)
+
+pub forged-refused : claim.ForgedRefused
+forged-refused memory layout memory′ r p long good g n =
+    request-refused memory layout memory′ r _ p long good (request-forged _ _ _ _ g (λ e. n (sym e ∙ token-is _ _)))
 
 lent-bytes : (a : Answer) (new old : List ℕ) → Bytes new → Bytes old → Bytes (lent a new old)
 lent-bytes Done new old p q = p
@@ -219,3 +238,51 @@ board-and-station memory layout memory′ made r b long good fresh makes came p 
     let d : r ≡ Done =
     accepts-exactly memory layout memory′ r p .1 (long, good, record { fresh = fresh; genuine = came ∙ made-is ∙ token-is _ _ }) in
     (d, agrees memory layout memory′ b (subst (Attests memory layout memory′) d p))
+
+-- ---- a request in the mailbox
+
+module _ (l : Layout) (p : Placed l) (memory c t : List ℕ) (long : length memory ≡ memoryBytes) (lc : length c ≡ 32) (lt : length t ≡ 32) where
+  abbrev first : List ℕ
+  first = sets memory (l .mr .lo) c
+
+  posted-long : length (posted l c t memory) ≡ memoryBytes
+  posted-long = length-sets first (l .mr .lo + 32) t ∙ length-sets memory (l .mr .lo) c ∙ long
+
+  posted-challenge : challenge l (posted l c t memory) ≡ c
+  posted-challenge =
+      stored-apart first (l .mr .lo + 32) t (l .mr .lo) 32 (inl (omega arith))
+      ∙ stored-there memory (l .mr .lo) 32 c lc (omega (arith, p .mail-in))
+
+  posted-received : received l (posted l c t memory) ≡ t
+  posted-received =
+      stored-there first (l .mr .lo + 32) 32 t lt (omega (arith, length-sets memory (l .mr .lo) c, p .mail-in))
+
+  -- bytes that lie apart from MR's first 96 stay
+  posted-apart : (a n : ℕ) → (l .mr .lo + 96 ≤ a) ⊎ (a + n ≤ l .mr .lo) → bytesAt a n (posted l c t memory) ≡ bytesAt a n memory
+  posted-apart a n o =
+      stored-apart first (l .mr .lo + 32) t a n (elim o [ inl h ↦ inr (omega arith) | inr h ↦ inl (omega arith) ])
+      ∙ stored-apart memory (l .mr .lo) c a n (elim o [ inl h ↦ inr (omega arith) | inr h ↦ inl (omega arith) ])
+
+  posted-key : key l (posted l c t memory) ≡ key l memory
+  posted-key =
+      let s = p .key in
+      posted-apart (l .kr .lo) (size (l .kr)) (elim (p .key-apart) [ inl h ↦ inl h | inr h ↦ inr (omega arith) ])
+
+  posted-counter : counter l (posted l c t memory) ≡ counter l memory
+  posted-counter =
+      let s = p .counter in
+      posted-apart (l .ctr .lo) (size (l .ctr)) (elim (p .apart) [ inl h ↦ inl h | inr h ↦ inr (omega arith) ])
+
+pub request-served : claim.RequestServed
+request-served memory layout c memory′ made r b long good lc fresh makes p =
+    let l = layoutOf layout in
+    let w = placed layout b (good-done layout good) in
+    let m = posted l c (made .bytes) memory in
+    let t = gives-bytes makes (token-fits (key l memory) c (board.length-key l w memory long) lc) in
+    let lt : length (made .bytes) ≡ 32 = ap length (t ∙ token-is (key l memory) c) ∙ length-hmac (key l memory) c in
+    let ec = posted-challenge l w memory c (made .bytes) long lc lt in
+    let ek = posted-key l w memory c (made .bytes) long lc lt in
+    let en = posted-counter l w memory c (made .bytes) long lc lt in
+    let d = board-and-station m layout memory′ made r b (posted-long l w memory c (made .bytes) long lc lt) good
+    (rw (ec, en) fresh) (rw (ec, ek) makes) (posted-received l w memory c (made .bytes) long lc lt) p in
+    (d .0, counted m layout memory′ b (subst (Attests m layout memory′) (d .0) p) ∙ ec, d .1)

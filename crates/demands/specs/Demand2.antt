@@ -8,8 +8,10 @@ use mathlib.Core.List.{List}
 use Prim.Native.Nat.{ℕ, zero, suc, _+_, _*_, _≤_, _<_}
 use lib.Dec.{eqb}
 use lib.ListN.{length, getD}
+use lib.Seq.{sets}
 use Rattle.refusal.specs.Bytes.{Bytes}
 use Rattle.refusal.specs.Choice.{pick}
+use Rattle.refusal.specs.Answers.{refusedAt}
 use Rattle.refusal.specs.Numbers.{memorySize, regionsShare, challengeNotGreater, tokenDiffers, lengthOrTotal}
 use Rattle.refusal.specs.declared.Refusal.{Refusal}
 use Rattle.refusal.specs.declared.Answer.{Answer}
@@ -118,6 +120,23 @@ RefusesSo =
     → (((memorySize ≤ q .number) × (q .number ≤ regionsShare)) ⊎ ((challengeNotGreater ≤ q .number) × (q .number ≤ tokenDiffers)))
     × (memory′ ≡ memory)
 
+-- an old request, for a challenge that is not greater than CTR, is refused with 10 whatever its token
+abbrev pub OldRefused : Type 0
+OldRefused =
+    (memory layout memory′ : List ℕ) (r : Answer) → Attests memory layout memory′ r
+    → length memory ≡ memoryBytes → Good layout
+    → greater (challenge (layoutOf layout) memory) (counter (layoutOf layout) memory) ≡ false
+    → r ≡ refusedAt challengeNotGreater 0
+
+-- one whose token is not T, with 11
+abbrev pub ForgedRefused : Type 0
+ForgedRefused =
+    (memory layout memory′ : List ℕ) (r : Answer) → Attests memory layout memory′ r
+    → length memory ≡ memoryBytes → Good layout
+    → greater (challenge (layoutOf layout) memory) (counter (layoutOf layout) memory) ≡ true
+    → received (layoutOf layout) memory ≢ hmac (key (layoutOf layout) memory) (challenge (layoutOf layout) memory)
+    → r ≡ refusedAt tokenDiffers 0
+
 -- what it stores are bytes
 abbrev pub StoresBytes : Type 0
 StoresBytes =
@@ -195,3 +214,19 @@ BoardAndStation =
     → received (layoutOf layout) memory ≡ made .bytes
     → Attests memory layout memory′ r
     → (r ≡ call.Done) × Agrees (layoutOf layout) memory memory′
+
+-- the memory with a challenge and a token put into the mailbox
+abbrev pub posted : Layout → List ℕ → List ℕ → List ℕ → List ℕ
+posted l c t memory = sets (sets memory (l .mr .lo) c) (l .mr .lo + 32) t
+
+-- so every request of the station is served, whatever else the memory holds: the counter is then the challenge, and they agree
+abbrev pub RequestServed : Type 0
+RequestServed =
+    (memory layout c memory′ : List ℕ) (made : Digest) (r : Answer)
+    → Bytes layout → length memory ≡ memoryBytes → Good layout → length c ≡ 32
+    → greater c (counter (layoutOf layout) memory) ≡ true
+    → MakesToken (key (layoutOf layout) memory) c made
+    → Attests (posted (layoutOf layout) c (made .bytes) memory) layout memory′ r
+    → (r ≡ call.Done)
+    × (counter (layoutOf layout) memory′ ≡ c)
+    × Agrees (layoutOf layout) (posted (layoutOf layout) c (made .bytes) memory) memory′

@@ -1,6 +1,7 @@
 -- Where the regions of attestation lie in a board's memory. Assumes nothing.
 use mathlib.Core.Path.{_≡_, refl}
 use mathlib.Core.Logic.{_⊎_, inl, inr}
+use mathlib.Core.Bool.{false}
 use mathlib.Core.List.{List}
 use Prim.Native.Nat.{ℕ, _+_, _*_, _≤_, _<_}
 use native.Mathlib.Omega.{arith}
@@ -11,7 +12,7 @@ use Rattle.refusal.specs.declared.Answer.the-variants.{Done}
 use Rattle.refusal.proofs.Tests.{cases}
 use Rattle.layout.specs.declared.Layout.{Layout}
 use Rattle.layout.specs.Regions.{size}
-use Rattle.layout.specs.Layouts.{KR, MR, CTR, AR, region, layoutOf, layoutCheck}
+use Rattle.layout.specs.Layouts.{KR, MR, CTR, AR, region, layoutOf, mayShare, layoutCheck}
 use Rattle.layout.specs.Calls.{memoryBytes}
 use Rattle.layout.specs.Good.{Good}
 use Rattle.layout.proofs.Laws.{done-good, ends-within}
@@ -25,8 +26,9 @@ pub record Placed (l : Layout) : Type 0 where
   pub counter-in : l .ctr .lo + 32 ≤ memoryBytes
   pub region : 1 ≤ size (l .ar)
   pub region-in : l .ar .lo + size (l .ar) ≤ memoryBytes
-  -- the first 96 bytes of MR and those of CTR are apart
+  -- the first 96 bytes of MR are apart from those of CTR, and of KR
   pub apart : (l .mr .lo + 96 ≤ l .ctr .lo) ⊎ (l .ctr .lo + 32 ≤ l .mr .lo)
+  pub key-apart : (l .mr .lo + 96 ≤ l .kr .lo) ⊎ (l .kr .lo + 64 ≤ l .mr .lo)
 
 -- a region of a layout of bytes ends in the memory
 region-ends : (b : List ℕ) → Bytes b → (k : ℕ) → region b k .hi < memoryBytes
@@ -44,6 +46,13 @@ before-or-behind a b c d u v f =
     (λ r. let h = ltb-true a c r in f c (omega arith) (ltb-false b c t) (omega arith) v)
     (λ r. f a (omega arith) u (ltb-false a c r) (ltb-false d a s)))))
 
+-- so it is with two regions of a good layout that may not share
+good-apart : (b : List ℕ) → Good b → (i j : ℕ) → i < j → j < 6 → mayShare i j ≡ false
+    → (region b i .hi < region b j .lo) ⊎ (region b j .hi < region b i .lo)
+good-apart b g i j h k m =
+    before-or-behind (region b i .lo) (region b i .hi) (region b j .lo) (region b j .hi) (g .ordered i (omega arith)) (g .ordered j k)
+    (λ x p q r t. g .apart i j h k m x (ends-within (region b i) x p q) (ends-within (region b j) x r t))
+
 good-placed : (b : List ℕ) → Bytes b → Good b → Placed (layoutOf b)
 unfolding layoutOf
 good-placed b h g =
@@ -55,10 +64,6 @@ good-placed b h g =
     let em = g .mailbox in
     let ec = g .counter in
     let oa = g .ordered AR (omega arith) in
-    let mr = region b MR in
-    let ctr = region b CTR in
-    let s = before-or-behind (mr .lo) (mr .hi) (ctr .lo) (ctr .hi) (g .ordered MR (omega arith)) (g .ordered CTR (omega arith))
-    (λ x p q r t. g .apart MR CTR (omega arith) (omega arith) refl x (ends-within mr x p q) (ends-within ctr x r t)) in
     record {
       key = ek;
       key-in = omega arith;
@@ -68,7 +73,8 @@ good-placed b h g =
       counter-in = omega arith;
       region = omega arith;
       region-in = omega arith;
-      apart = elim s [ inl p ↦ inl (omega arith) | inr p ↦ inr (omega arith) ];
+      apart = elim (good-apart b g MR CTR (omega arith) (omega arith) refl) [ inl p ↦ inl (omega arith) | inr p ↦ inr (omega arith) ];
+      key-apart = elim (good-apart b g KR MR (omega arith) (omega arith) refl) [ inl p ↦ inr (omega arith) | inr p ↦ inl (omega arith) ];
     }
 
 pub placed : (b : List ℕ) → Bytes b → layoutCheck b ≡ Done → Placed (layoutOf b)

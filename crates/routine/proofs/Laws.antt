@@ -1,14 +1,17 @@
 -- The laws of the routine, for readers and for the crates above. Assumes nothing.
 use mathlib.Core.Path.{_≡_, refl, sym, ap}
-use mathlib.Core.Bool.{true, not}
+use mathlib.Core.Logic.{_≢_}
+use mathlib.Core.Bool.{true, false, not}
 use mathlib.Core.List.{List}
 use Prim.Native.Nat.{ℕ, _≤_}
 use native.Mathlib.Omega.{arith}
 use borrow.Author.Tests.{not-false}
 use lib.ListN.{length}
 use Rattle.refusal.specs.Bytes.{Bytes}
+use Rattle.refusal.specs.Answers.{refusedAt}
 use Rattle.refusal.specs.Numbers.{challengeNotGreater, tokenDiffers}
 use Rattle.refusal.specs.declared.Answer.the-variants.{Done}
+use Rattle.refusal.proofs.Tests.{untrue}
 use Rattle.refusal.proofs.Order.{done-passed, Refuses, refuses-none, refuses-test}
 use Rattle.sha256.proofs.Laws.{length-sha256}
 use Rattle.sha256.proofs.Bytes.{bytes-sha256}
@@ -64,6 +67,17 @@ unfolding requestCheck
 request-passes k challenge received counter g e = simp (g, equal-same (token k challenge) received e)
 
 -- refused with 10 or 11
+pub request-old : (k challenge received counter : List ℕ) → greater challenge counter ≡ false
+    → requestCheck k challenge received counter ≡ refusedAt challengeNotGreater 0
+unfolding requestCheck
+request-old k challenge received counter g = simp g
+
+pub request-forged : (k challenge received counter : List ℕ) → greater challenge counter ≡ true → token k challenge ≢ received
+    → requestCheck k challenge received counter ≡ refusedAt tokenDiffers 0
+unfolding requestCheck
+request-forged k challenge received counter g n =
+    simp (g, untrue (same (token k challenge) received) (λ e. n (same-equal (token k challenge) received e)))
+
 pub request-numbers : (k challenge received counter : List ℕ)
     → Refuses (λ n. (challengeNotGreater ≤ n) × (n ≤ tokenDiffers)) (requestCheck k challenge received counter)
 unfolding requestCheck

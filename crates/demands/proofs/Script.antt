@@ -37,9 +37,10 @@ use Rattle.board.specs.Promises.{Attests}
 use Rattle.board.proofs.Stores.{bytes-read}
 use Rattle.board.proofs.Laws.{bytes-due, attested-done}
 use Rattle.demands.specs.Traces.{remembers, causeAt, InParts}
+use Rattle.demands.specs.Marked.{at}
 use Rattle.demands.specs.Script as claim
 use Rattle.demands.specs.Visit.{Free, Plays, storeAt, storeByte, played}
-use Rattle.demands.specs.Script.{flags, encode, encoded, away, scripted, script}
+use Rattle.demands.specs.Script.{flags, encode, encoded, scripted, script}
 use Rattle.demands.proofs.Runs.{Alike, alike, in-parts}
 use Rattle.demands.proofs.Traces.{release}
 use Rattle.demands.proofs.Visit.{visit-passes, leaves-freely, visit-attests, can-be-played}
@@ -181,7 +182,7 @@ module _ (memory layout memory′ : List ℕ) (h : Bytes layout) (a : Attests me
 
   after-first : before ly all (begin memory) 1 ≡ released memory
   unfolding before next
-  after-first = simp (released-first, keeps-memory ly start away memory released-first refl refl)
+  after-first = simp (released-first, keeps-memory ly start (at 0) memory released-first refl refl)
 
   free-first : Free ly (released memory)
   free-first = record { unheld = refl; outside = zero-outside layout laid }
@@ -202,7 +203,7 @@ module _ (memory layout memory′ : List ℕ) (h : Bytes layout) (a : Attests me
   rest-leaves : before ly rest (released memory) 65 .memory ≡ memory′
   unfolding before
   rest-leaves =
-      keeps-memory ly (remembers ly rest (released memory) 64) away (before ly rest (released memory) 64 .memory)
+      keeps-memory ly (remembers ly rest (released memory) 64) (at 0) (before ly rest (released memory) 64 .memory)
       (rest-passes 64 (omega arith)) refl refl
       ∙ visit-attests layout memory′ rest (released memory) h free-first a plays-rest
 
@@ -312,8 +313,8 @@ small-pick : (t : Bool) (a b n : ℕ) → (t ≡ true → a < n) → (t ≡ fals
 small-pick true a b n f g = f refl
 small-pick false a b n f g = g refl
 
-away-small : Small away
-away-small = record { pc = omega arith; cpu = omega arith; dma = omega arith; cpudata = omega arith; dmadata = omega arith }
+at-small : Small (at 0)
+at-small = record { pc = omega arith; cpu = omega arith; dma = omega arith; cpudata = omega arith; dmadata = omega arith }
 
 -- an accepted call's addresses and bytes are small
 module _ (memory layout memory′ : List ℕ) (h : Bytes layout) (k : Bytes memory) (a : Attests memory layout memory′ Done) where
@@ -335,7 +336,7 @@ module _ (memory layout memory′ : List ℕ) (h : Bytes layout) (k : Bytes memo
       bytes-read memory (lb .mr .lo) 32 k (i - 32))
 
   each : (i : ℕ) → i < 66 → Small (scripted lb memory i)
-  each zero e = away-small
+  each zero e = at-small
   each (suc i) e =
       cases (ltb i 64)
       (λ t.
@@ -344,11 +345,11 @@ module _ (memory layout memory′ : List ℕ) (h : Bytes layout) (k : Bytes memo
         pc =
             small-pick (eqb i 63) (lb .cr .hi) (lb .cr .lo) memoryBytes (λ u. code-small layout h .1) (λ u. code-small layout h .0);
         cpu = address i g;
-        dma = omega arith;
+        dma = address i g;
         cpudata = byte i g;
         dmadata = omega arith;
       }))
-      (λ t. simp t away-small)
+      (λ t. simp t at-small)
 
   script-small : Bytes (script lb memory)
   script-small = bytes-encoded (scripted lb memory) 66 each

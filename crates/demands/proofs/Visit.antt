@@ -32,7 +32,7 @@ use Rattle.board.proofs.Stores.{sets-more}
 use Rattle.board.proofs.Laws.{length-due, length-challenge, Allowed, attested-done}
 use Rattle.demands.specs.Traces.{crOrKr, remembers, causeAt}
 use Rattle.demands.specs.Visit as claim
-use Rattle.demands.specs.Visit.{Inside, Free, Plays, storeAt, storeByte, codeWrites}
+use Rattle.demands.specs.Visit.{Inside, Free, Plays, storeAt, storeByte, writing}
 
 -- ---- steps that pass
 
@@ -271,7 +271,7 @@ pub code-may-store : claim.CodeMayStore
 unfolding before
 code-may-store layout x a v g free c h =
     let l = layoutOf layout in
-    let s = codeWrites l a v in
+    let s = writing (l .cr .lo) a v in
     let i : Inside l s =
     record {
       pc = code-ends layout g .0;

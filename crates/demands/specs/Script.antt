@@ -1,7 +1,6 @@
 -- Attestation as a trace: the bytes of a visit that makes the stores of an accepted call, given to the monitor.
 -- Definitions and claims; the proofs are in proofs/Script.antt. Assumes nothing.
 use mathlib.Core.Path.{_≡_}
-use mathlib.Core.Bool.{false}
 use mathlib.Core.List.{List, [], _∷_, _++_}
 use Prim.Native.Nat.{ℕ, zero, suc, _+_, _*_, _/_, _%_, _≤_, _<_}
 use lib.Dec.{ltb}
@@ -17,6 +16,7 @@ use Rattle.monitor.specs.declared.Traced.the-variants as traced
 use Rattle.monitor.specs.Runs.{steps, before}
 use Rattle.monitor.specs.Promises.{Traces}
 use Rattle.board.specs.Promises.{Attests}
+use Rattle.demands.specs.Marked.{at}
 use Rattle.demands.specs.Visit.{played}
 
 -- a step's 12 bytes
@@ -38,25 +38,10 @@ encoded t (suc n) = encoded t n ++ encode (t n)
 abbrev pub TellsSteps : Type 0
 TellsSteps = (t : ℕ → Step) (n i : ℕ) → i < n → steps (encoded t n) i ≡ t i
 
--- a step with PC 0 that accesses nothing
-abbrev pub away : Step
-away = record {
-  pc = 0;
-  cpu = 0;
-  dma = 0;
-  reads = false;
-  writes = false;
-  interrupt = false;
-  active = false;
-  stores = false;
-  cpudata = 0;
-  dmadata = 0;
-}
-
--- the visit of an accepted call, with one such step before it and one behind it
+-- the visit of an accepted call, with a step before it and one behind it at PC 0 that access nothing
 abbrev pub scripted : Layout → List ℕ → ℕ → Step
-scripted l memory zero = away
-scripted l memory (suc i) = pick (ltb i 64) (played l memory i) away
+scripted l memory zero = at 0
+scripted l memory (suc i) = pick (ltb i 64) (played l memory i) (at 0)
 
 abbrev pub script : Layout → List ℕ → List ℕ
 script l memory = encoded (scripted l memory) 66

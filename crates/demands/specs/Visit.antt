@@ -18,6 +18,8 @@ use Rattle.monitor.specs.Runs.{State, steps, before}
 use Rattle.board.specs.Memory.{challenge, replyAt}
 use Rattle.board.specs.Attestation.{due}
 use Rattle.board.specs.Promises.{Attests}
+use Rattle.demands.specs.Marked.{writes}
+use Rattle.demands.specs.Demand3.{with}
 use Rattle.demands.specs.Traces.{causeAt, byteAt}
 
 -- ---- a lawful visit
@@ -76,20 +78,13 @@ VisitAttests =
     → Attests (x .memory) layout memory′ Done → Plays (layoutOf layout) (x .memory) t
     → before (layoutOf layout) t x 64 .memory ≡ memory′
 
+-- a step that writes v to address a
+abbrev pub writing : ℕ → ℕ → ℕ → Step
+writing pc a v = with (writes pc a) v
+
 -- there is such a visit for every accepted call: all its steps but the last at CR's lowest address, the last at its highest
 abbrev pub played : Layout → List ℕ → ℕ → Step
-played l memory i = record {
-  pc = pick (eqb i 63) (l .cr .hi) (l .cr .lo);
-  cpu = storeAt l i;
-  dma = 0;
-  reads = false;
-  writes = true;
-  interrupt = false;
-  active = false;
-  stores = false;
-  cpudata = storeByte l memory i;
-  dmadata = 0;
-}
+played l memory i = writing (pick (eqb i 63) (l .cr .hi) (l .cr .lo)) (storeAt l i) (storeByte l memory i)
 
 abbrev pub CanBePlayed : Type 0
 CanBePlayed =
@@ -98,26 +93,11 @@ CanBePlayed =
 
 -- ---- any other store of the attestation code into CTR
 
--- one of its steps, at CR's lowest address: it writes v to a
-abbrev pub codeWrites : Layout → ℕ → ℕ → Step
-codeWrites l a v = record {
-  pc = l .cr .lo;
-  cpu = a;
-  dma = 0;
-  reads = false;
-  writes = true;
-  interrupt = false;
-  active = false;
-  stores = false;
-  cpudata = v;
-  dmadata = 0;
-}
-
--- where a is in CTR, the monitor lets it pass, and v then stands there, whatever it is: rule 6 allows it.
+-- at CR's lowest address it may write any v to an address of CTR, by rule 6, and v then stands there.
 -- So a history of the counter has to say that no trace does this
 abbrev pub CodeMayStore : Type 0
 CodeMayStore =
     (layout : List ℕ) (x : State) (a v : ℕ) → Good layout → Free (layoutOf layout) x
     → within (layoutOf layout .ctr) a ≡ true → a < length (x .memory)
-    → (causeAt (layoutOf layout) (λ i. codeWrites (layoutOf layout) a v) x 0 ≡ 0)
-    × (byteAt (layoutOf layout) (λ i. codeWrites (layoutOf layout) a v) x 1 a ≡ v)
+    → (causeAt (layoutOf layout) (λ i. writing (layoutOf layout .cr .lo) a v) x 0 ≡ 0)
+    × (byteAt (layoutOf layout) (λ i. writing (layoutOf layout .cr .lo) a v) x 1 a ≡ v)

@@ -1,12 +1,11 @@
 -- The routine on the board, the station, and both together: the claims of demand 2. Assumes nothing.
 use mathlib.Core.Path.{_≡_, sym, ap, subst, _∙_}
-use mathlib.Core.Logic.{_⊎_, inl, inr}
 use mathlib.Core.Bool.{true}
 use mathlib.Core.List.{List}
 use Prim.Native.Nat.{ℕ, _+_, _≤_}
 use native.Mathlib.Omega.{arith}
 use lib.ListN.{length, getD, take, drop}
-use lib.Seq.{take-take, sets, length-sets}
+use lib.Seq.{take-take}
 use Rattle.refusal.specs.Bytes.{Bytes}
 use Rattle.refusal.specs.Answers.{lent}
 use Rattle.refusal.specs.Settled.{row-settled}
@@ -28,13 +27,14 @@ use Rattle.routine.proofs.Laws.{token-is, reply-is, length-hmac, length-reply, 
 use Rattle.board.specs.Memory.{bytesAt, key, counter, attested, challenge, received, replyAt, replied}
 use Rattle.board.specs.Attestation.{attestCheck, due, accepted, storesTo}
 use Rattle.board.specs.Promises.{Attests}
-use Rattle.board.proofs.Stores.{read-same, read-inside, stored-there, stored-apart}
+use Rattle.board.proofs.Stores.{read-same, read-inside}
 use Rattle.board.proofs.Laws as board
 use Rattle.board.proofs.Laws.{Allowed, done-allowed, allowed-done, attested-done, attested-refused, due-is}
 use Rattle.station.specs.Promises.{checkUnfit, ChecksReply}
 use Rattle.station.proofs.Laws.{Fit, token-fits, check-fits, fits-check, said-yes, says-yes, said-no, says-no, said-refused, says-refused}
 use Rattle.demands.specs.Demand2 as claim
 use Rattle.demands.specs.Demand2.{Answers, SameRequest, Lengths, Agrees, posted}
+use Rattle.demands.proofs.Posted.{posted-long, posted-challenge, posted-received, posted-key, posted-counter}
 
 -- ---- the routine, on the board
 
@@ -241,38 +241,6 @@ board-and-station memory layout memory′ made r b long good fresh makes came p 
 
 -- ---- a request in the mailbox
 
-module _ (l : Layout) (p : Placed l) (memory c t : List ℕ) (long : length memory ≡ memoryBytes) (lc : length c ≡ 32) (lt : length t ≡ 32) where
-  abbrev first : List ℕ
-  first = sets memory (l .mr .lo) c
-
-  posted-long : length (posted l c t memory) ≡ memoryBytes
-  posted-long = length-sets first (l .mr .lo + 32) t ∙ length-sets memory (l .mr .lo) c ∙ long
-
-  posted-challenge : challenge l (posted l c t memory) ≡ c
-  posted-challenge =
-      stored-apart first (l .mr .lo + 32) t (l .mr .lo) 32 (inl (omega arith))
-      ∙ stored-there memory (l .mr .lo) 32 c lc (omega (arith, p .mail-in))
-
-  posted-received : received l (posted l c t memory) ≡ t
-  posted-received =
-      stored-there first (l .mr .lo + 32) 32 t lt (omega (arith, length-sets memory (l .mr .lo) c, p .mail-in))
-
-  -- bytes that lie apart from MR's first 96 stay
-  posted-apart : (a n : ℕ) → (l .mr .lo + 96 ≤ a) ⊎ (a + n ≤ l .mr .lo) → bytesAt a n (posted l c t memory) ≡ bytesAt a n memory
-  posted-apart a n o =
-      stored-apart first (l .mr .lo + 32) t a n (elim o [ inl h ↦ inr (omega arith) | inr h ↦ inl (omega arith) ])
-      ∙ stored-apart memory (l .mr .lo) c a n (elim o [ inl h ↦ inr (omega arith) | inr h ↦ inl (omega arith) ])
-
-  posted-key : key l (posted l c t memory) ≡ key l memory
-  posted-key =
-      let s = p .key in
-      posted-apart (l .kr .lo) (size (l .kr)) (elim (p .key-apart) [ inl h ↦ inl h | inr h ↦ inr (omega arith) ])
-
-  posted-counter : counter l (posted l c t memory) ≡ counter l memory
-  posted-counter =
-      let s = p .counter in
-      posted-apart (l .ctr .lo) (size (l .ctr)) (elim (p .apart) [ inl h ↦ inl h | inr h ↦ inr (omega arith) ])
-
 pub request-served : claim.RequestServed
 request-served memory layout c memory′ made r b long good lc fresh makes p =
     let l = layoutOf layout in
@@ -283,6 +251,6 @@ request-served memory layout c memory′ made r b long good lc fresh makes p =
     let ec = posted-challenge l w memory c (made .bytes) long lc lt in
     let ek = posted-key l w memory c (made .bytes) long lc lt in
     let en = posted-counter l w memory c (made .bytes) long lc lt in
-    let d = board-and-station m layout memory′ made r b (posted-long l w memory c (made .bytes) long lc lt) good
+    let d = board-and-station m layout memory′ made r b (posted-long l c (made .bytes) memory ∙ long) good
     (rw (ec, en) fresh) (rw (ec, ek) makes) (posted-received l w memory c (made .bytes) long lc lt) p in
     (d .0, counted m layout memory′ b (subst (Attests m layout memory′) (d .0) p) ∙ ec, d .1)

@@ -10,27 +10,35 @@ use lib.ListN.{length, getD}
 use borrow.Author.Tests.{eqb-true, eqb-false, ltb-true, ltb-false}
 use Rattle.refusal.specs.Bytes.{Bytes}
 use Rattle.refusal.specs.Answers.{lent}
+use Rattle.refusal.specs.Settled.{row-settled}
 use Rattle.refusal.specs.declared.Answer.{Answer}
 use Rattle.refusal.specs.declared.Answer.the-variants.{Done, Refused}
 use Rattle.refusal.proofs.Tests.{cases, clash, untrue}
 use Rattle.layout.specs.declared.Layout.{Layout}
 use Rattle.layout.specs.Regions.{within}
 use Rattle.layout.specs.Layouts.{layoutOf}
-use Rattle.layout.specs.Calls.{callCheck}
-use Rattle.layout.proofs.Placed.{placed}
+use Rattle.layout.specs.Calls.{memoryBytes, callCheck}
+use Rattle.layout.specs.Good.{Good}
+use Rattle.layout.proofs.Laws.{good-done}
+use Rattle.layout.proofs.Placed.{Placed, placed}
 use Rattle.rules.specs.declared.Step.{Step}
 use Rattle.monitor.specs.Effects.{written}
 use Rattle.monitor.specs.Runs.{State, count, steps, begin, before, memoryAfter}
 use Rattle.monitor.specs.Promises.{traceCheck, stepCheck}
 use Rattle.routine.specs.Strings.{greater}
+use Rattle.routine.specs.Routine.{token}
+use Rattle.routine.proofs.Laws.{token-is, length-hmac}
 use Rattle.routine.proofs.Order.{greater-irreflexive, greater-trans, number-greater}
-use Rattle.board.specs.Memory.{counter, challenge}
+use Rattle.board.specs.Memory.{key, counter, challenge}
+use Rattle.board.specs.Attestation.{attestCheck, accepted}
 use Rattle.board.specs.Promises.{Attests}
 use Rattle.board.proofs.Stores.{bytes-read}
-use Rattle.board.proofs.Laws.{region-agrees, length-challenge, accepted-counter, attested-done, attested-refused}
+use Rattle.board.proofs.Laws.{region-agrees, length-challenge, length-accepted, accepted-counter, allowed-done, attested-done, attested-refused}
 use Rattle.demands.specs.Traces.{remembers, byteAt}
+use Rattle.demands.specs.Demand2.{posted}
 use Rattle.demands.specs.History as claim
 use Rattle.demands.specs.History.{Event, attest, trace, change, Keeps, storesCounter, Happens, History, Accepted, counterAt}
+use Rattle.demands.proofs.Posted.{posted-long, posted-challenge, posted-received, posted-code, posted-key, posted-counter}
 use Rattle.demands.proofs.Traces.{length-kept, rom, guarded}
 
 -- ---- a trace
@@ -202,3 +210,109 @@ later-is-larger layout events memories n s i j c d h k a b = (
       let f : d ≡ c = b .request ∙ ap (λ (m : ℕ). challenge (layoutOf layout) (memories m)) (sym e) ∙ sym (a .request) in
       clash (greater d c) g (rw f (greater-irreflexive c))),
 )
+
+-- ---- a history with two requests
+
+-- a request in the mailbox is a change that keeps CR, KR and CTR
+posted-keeps : (l : Layout) (p : Placed l) (memory c t : List ℕ) → length memory ≡ memoryBytes → length c ≡ 32 → length t ≡ 32
+    → Keeps l memory (posted l c t memory)
+posted-keeps l p memory c t long lc lt = record {
+  long = posted-long l c t memory;
+  code = posted-code l p memory c t long lc lt;
+  key = posted-key l p memory c t long lc lt;
+  counter = posted-counter l p memory c t long lc lt;
+}
+
+-- the one for c: it is accepted
+module _ (layout : List ℕ) (b : Bytes layout) (good : Good layout) (memory c : List ℕ) (long : length memory ≡ memoryBytes)
+    (lc : length c ≡ 32) (fresh : greater c (counter (layoutOf layout) memory) ≡ true) where
+  abbrev l : Layout
+  l = layoutOf layout
+
+  abbrev request : List ℕ
+  request = posted l c (token (key l memory) c) memory
+
+  lies : Placed l
+  lies = placed layout b (good-done layout good)
+
+  token-long : length (token (key l memory) c) ≡ 32
+  token-long = ap length (token-is (key l memory) c) ∙ length-hmac (key l memory) c
+
+  request-kept : Keeps l memory request
+  request-kept = posted-keeps l lies memory c (token (key l memory) c) long lc token-long
+
+  request-is : challenge l request ≡ c
+  request-is = posted-challenge l lies memory c (token (key l memory) c) long lc token-long
+
+  request-long : length request ≡ memoryBytes
+  request-long = posted-long l c (token (key l memory) c) memory ∙ long
+
+  request-done : attestCheck request layout ≡ Done
+  request-done =
+      allowed-done request layout (record {
+        long = request-long;
+        laid = good-done layout good;
+        fresh = rw (request-is, request-kept .counter) fresh;
+        genuine =
+            rw (request-is, request-kept .key) (sym (posted-received l lies memory c (token (key l memory) c) long lc token-long));
+      })
+
+  served : Attests request layout (accepted l request) Done
+  served = record { answered = simp request-done; memory-left = simp request-done }
+
+  counter-after : counter l (accepted l request) ≡ c
+  counter-after = accepted-counter l lies request request-long ∙ request-is
+
+  long-after : length (accepted l request) ≡ memoryBytes
+  long-after = length-accepted l lies request request-long ∙ request-long
+
+pub both-served : claim.BothServed
+both-served memory layout c d b long good lc ld fresh rises =
+    let l = layoutOf layout in
+    let x = request layout b good memory c long lc fresh in
+    let y = accepted l x in
+    let e : counter l y ≡ c = counter-after layout b good memory c long lc fresh in
+    let n : length y ≡ memoryBytes = long-after layout b good memory c long lc fresh in
+    let g : greater d (counter l y) ≡ true = rw e rises in
+    let z = request layout b good y d n ld g in
+    let m : ℕ → List ℕ = memories memory x y z (accepted l z) in (
+      events,
+      m,
+      refl,
+      record {
+        layoutBytes = b;
+        happens = λ i h. four m i h (request-kept layout b good memory c long lc fresh) (served layout b good memory c long lc fresh)
+            (request-kept layout b good y d n ld g) (served layout b good y d n ld g);
+      },
+      record { event = refl; request = sym (request-is layout b good memory c long lc fresh) },
+      record { event = refl; request = sym (request-is layout b good y d n ld g) },
+    )
+  where
+    events : ℕ → Event
+    events zero = change
+    events (suc zero) = attest Done
+    events (suc (suc zero)) = change
+    events (suc (suc (suc i))) = attest Done
+
+    memories : List ℕ → List ℕ → List ℕ → List ℕ → List ℕ → ℕ → List ℕ
+    memories a b c d e zero = a
+    memories a b c d e (suc zero) = b
+    memories a b c d e (suc (suc zero)) = c
+    memories a b c d e (suc (suc (suc zero))) = d
+    memories a b c d e (suc (suc (suc (suc i)))) = e
+
+    four : (m : ℕ → List ℕ) (i : ℕ) → i < 4 → Happens layout change (m 0) (m 1) → Happens layout (attest Done) (m 1) (m 2)
+        → Happens layout change (m 2) (m 3) → Happens layout (attest Done) (m 3) (m 4) → Happens layout (events i) (m i) (m (suc i))
+    four m zero h p q r s = p
+    four m (suc zero) h p q r s = q
+    four m (suc (suc zero)) h p q r s = r
+    four m (suc (suc (suc zero))) h p q r s = s
+    four m (suc (suc (suc (suc i)))) h p q r s = absurd (omega arith)
+
+-- ---- a counter that falls back
+
+pub fallen-back : claim.FallenBack
+fallen-back layout x x′ y y′ r p q long ek ec et fresh =
+    let a = attested-done x layout x′ p .0 in
+    row-settled r (attestCheck y layout) (q .answered)
+    ∙ allowed-done y layout (record { long = long ∙ a .long; laid = a .laid; fresh = fresh; genuine = cc (a .genuine) })

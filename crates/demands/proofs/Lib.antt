@@ -4,6 +4,7 @@ pub mod Runs
 pub mod Traces
 pub mod Vrased
 pub mod Decisions
+pub mod Posted
 pub mod Demand2
 pub mod Memories
 pub mod Demand3

@@ -12,6 +12,8 @@ use Rattle.refusal.specs.declared.Answer.the-variants.{Done}
 use Rattle.layout.specs.declared.Layout.{Layout}
 use Rattle.layout.specs.Layouts.{layoutOf}
 use Rattle.layout.specs.Regions.{within}
+use Rattle.layout.specs.Calls.{memoryBytes}
+use Rattle.layout.specs.Good.{Good}
 use Rattle.rules.specs.declared.Step.{Step}
 use Rattle.rules.specs.declared.Monitor.{Monitor}
 use Rattle.rules.specs.Rules.{cpuWrites, resets}
@@ -20,7 +22,7 @@ use Rattle.monitor.specs.declared.Traced.{Traced}
 use Rattle.monitor.specs.Runs.{count, steps, begin, before}
 use Rattle.monitor.specs.Promises.{Steps, Traces}
 use Rattle.routine.specs.Strings.{greater, number}
-use Rattle.board.specs.Memory.{bytesOf, key, counter, challenge}
+use Rattle.board.specs.Memory.{bytesOf, key, counter, challenge, received}
 use Rattle.board.specs.Promises.{Attests}
 
 -- ---- what can happen to a board
@@ -86,6 +88,14 @@ module _ (layout : List ℕ) (events : ℕ → Event) (memories : ℕ → List �
 abbrev pub counterAt : List ℕ → (ℕ → List ℕ) → ℕ → List ℕ
 counterAt layout memories i = counter (layoutOf layout) (memories i)
 
+-- the counter never falls
+abbrev pub CounterRises : Type 0
+CounterRises =
+    (layout : List ℕ) (events : ℕ → Event) (memories : ℕ → List ℕ) (n : ℕ) → History layout events memories n
+    → (i j : ℕ) → i ≤ j → j ≤ n
+    → (counterAt layout memories j ≡ counterAt layout memories i)
+    ⊎ (greater (counterAt layout memories j) (counterAt layout memories i) ≡ true)
+
 -- a challenge that is not greater than the counter is never again
 abbrev pub OldStaysOld : Type 0
 OldStaysOld =
@@ -121,10 +131,23 @@ LaterIsLarger =
     → (i j : ℕ) (c d : List ℕ) → i < n → j < n
     → Accepted layout events memories i c → Accepted layout events memories j d → (i < j) ↔ (greater d c ≡ true)
 
--- the counter never falls
-abbrev pub CounterRises : Type 0
-CounterRises =
-    (layout : List ℕ) (events : ℕ → Event) (memories : ℕ → List ℕ) (n : ℕ) → History layout events memories n
-    → (i j : ℕ) → i ≤ j → j ≤ n
-    → (counterAt layout memories j ≡ counterAt layout memories i)
-    ⊎ (greater (counterAt layout memories j) (counterAt layout memories i) ≡ true)
+-- ---- what all this is worth
+
+-- there are such histories: on every board, two requests for rising challenges, each put into the mailbox and accepted
+abbrev pub BothServed : Type 0
+BothServed =
+    (memory layout c d : List ℕ) → Bytes layout → length memory ≡ memoryBytes → Good layout
+    → length c ≡ 32 → length d ≡ 32 → greater c (counter (layoutOf layout) memory) ≡ true → greater d c ≡ true
+    → (events : ℕ → Event) × (memories : ℕ → List ℕ)
+    × (memories 0 ≡ memory)
+    × History layout events memories 4
+    × Accepted layout events memories 1 c
+    × Accepted layout events memories 3 d
+
+-- and CTR has to be kept: where it falls back below the challenge of a request that was accepted, that request is accepted again
+abbrev pub FallenBack : Type 0
+FallenBack =
+    (layout x x′ y y′ : List ℕ) (r : Answer) → Attests x layout x′ Done → Attests y layout y′ r
+    → length y ≡ length x → key (layoutOf layout) y ≡ key (layoutOf layout) x
+    → challenge (layoutOf layout) y ≡ challenge (layoutOf layout) x → received (layoutOf layout) y ≡ received (layoutOf layout) x
+    → greater (challenge (layoutOf layout) y) (counter (layoutOf layout) y) ≡ true → r ≡ Done

@@ -12,7 +12,7 @@ use Rattle.refusal.specs.declared.Answer.the-variants.{Done}
 use Rattle.refusal.proofs.Tests.{cases}
 use Rattle.layout.specs.declared.Layout.{Layout}
 use Rattle.layout.specs.Regions.{size}
-use Rattle.layout.specs.Layouts.{KR, MR, CTR, AR, region, layoutOf, mayShare, layoutCheck}
+use Rattle.layout.specs.Layouts.{CR, KR, MR, CTR, AR, region, layoutOf, mayShare, layoutCheck}
 use Rattle.layout.specs.Calls.{memoryBytes}
 use Rattle.layout.specs.Good.{Good}
 use Rattle.layout.proofs.Laws.{done-good, ends-within}
@@ -26,8 +26,9 @@ pub record Placed (l : Layout) : Type 0 where
   pub counter-in : l .ctr .lo + 32 ≤ memoryBytes
   pub region : 1 ≤ size (l .ar)
   pub region-in : l .ar .lo + size (l .ar) ≤ memoryBytes
-  -- the first 96 bytes of MR are apart from those of CTR, and of KR
+  -- the first 96 bytes of MR are apart from those of CTR, of CR and of KR
   pub apart : (l .mr .lo + 96 ≤ l .ctr .lo) ⊎ (l .ctr .lo + 32 ≤ l .mr .lo)
+  pub code-apart : (l .mr .lo + 96 ≤ l .cr .lo) ⊎ (l .cr .lo + size (l .cr) ≤ l .mr .lo)
   pub key-apart : (l .mr .lo + 96 ≤ l .kr .lo) ⊎ (l .kr .lo + 64 ≤ l .mr .lo)
 
 -- a region of a layout of bytes ends in the memory
@@ -64,6 +65,7 @@ good-placed b h g =
     let em = g .mailbox in
     let ec = g .counter in
     let oa = g .ordered AR (omega arith) in
+    let oc = g .ordered CR (omega arith) in
     record {
       key = ek;
       key-in = omega arith;
@@ -74,6 +76,7 @@ good-placed b h g =
       region = omega arith;
       region-in = omega arith;
       apart = elim (good-apart b g MR CTR (omega arith) (omega arith) refl) [ inl p ↦ inl (omega arith) | inr p ↦ inr (omega arith) ];
+      code-apart = elim (good-apart b g CR MR (omega arith) (omega arith) refl) [ inl p ↦ inr (omega arith) | inr p ↦ inl (omega arith) ];
       key-apart = elim (good-apart b g KR MR (omega arith) (omega arith) refl) [ inl p ↦ inr (omega arith) | inr p ↦ inl (omega arith) ];
     }
 

@@ -138,52 +138,48 @@ event-rises layout h change x y p = inl (p .counter)
 -- ---- over every history
 
 pub counter-rises : claim.CounterRises
-counter-rises layout events memories n s i zero h k =
+counter-rises h i zero p q =
     let e : 0 ≡ i = omega arith in
-    inl (ap (λ (m : ℕ). counterAt layout memories m) e)
-counter-rises layout events memories n s i (suc j) h k =
-    cases (eqb i (suc j))
-    (λ t. inl (ap (λ (m : ℕ). counterAt layout memories m) (sym (eqb-true i (suc j) t))))
+    inl (ap (counterAt h) e)
+counter-rises h i (suc j) p q =
+    cases (eqb i (suc j)) (λ t. inl (ap (counterAt h) (sym (eqb-true i (suc j) t))))
     (λ t.
     let o : i ≢ suc j = eqb-false i (suc j) t in
-    rises-on (counterAt layout memories i) (counterAt layout memories j) (counterAt layout memories (suc j))
-    (counter-rises layout events memories n s i j (omega arith) (omega arith))
-    (event-rises layout (s .layoutBytes) (events j) (memories j) (memories (suc j)) (s .happens j k)))
+    rises-on (counterAt h i) (counterAt h j) (counterAt h (suc j)) (counter-rises h i j (omega arith) (omega arith))
+    (event-rises (h .layout) (h .layoutBytes) (h .events j) (h .memories j) (h .memories (suc j)) (h .happens j q)))
 
 -- what is greater than a string is greater than all that it has risen from
 greater-rises : (a b c : List ℕ) → Rises a b → greater c b ≡ true → greater c a ≡ true
 greater-rises a b c p g = elim p [ inl e ↦ rw (← e) g | inr f ↦ greater-trans c b a g f ]
 
 pub old-stays-old : claim.OldStaysOld
-old-stays-old layout events memories n s i j h k c e =
-    let a = counterAt layout memories i in
-    let b = counterAt layout memories j in
-    untrue (greater c b) (λ g. clash (greater c a) (greater-rises a b c (counter-rises layout events memories n s i j h k) g) e)
+old-stays-old h i j p q c e =
+    untrue (greater c (counterAt h j))
+    (λ g. clash (greater c (counterAt h i)) (greater-rises (counterAt h i) (counterAt h j) c (counter-rises h i j p q) g) e)
 
-accepted-advances : (layout : List ℕ) (events : ℕ → Event) (memories : ℕ → List ℕ) (n : ℕ) → History layout events memories n
-    → (i : ℕ) (c : List ℕ) → i < n → Accepted layout events memories i c
-    → Advances (layoutOf layout) (memories i) (memories (suc i))
-accepted-advances layout events memories n s i c h a =
-    advances layout (memories i) (memories (suc i)) (s .layoutBytes)
-    (subst (λ (e : Event). Happens layout e (memories i) (memories (suc i))) (a .event) (s .happens i h))
+accepted-advances : (h : History) (i : ℕ) (c : List ℕ) → Accepted h i c → Advances (layoutOf (h .layout)) (h .memories i) (h .memories (suc i))
+accepted-advances h i c a =
+    advances (h .layout) (h .memories i) (h .memories (suc i)) (h .layoutBytes)
+    (subst (λ (e : Event). Happens (h .layout) e (h .memories i) (h .memories (suc i))) (a .event) (h .happens i (a .happened)))
 
 pub increase : claim.Increase
-increase layout events memories n s i j c d h k a b =
-    let p = accepted-advances layout events memories n s i c (omega arith) a in
-    let q = accepted-advances layout events memories n s j d k b in
+increase h i j c d a b t =
+    let p = accepted-advances h i c a in
+    let q = accepted-advances h j d b in
+    let n = b .happened in
     rw (a .request, b .request, ← p .counted)
-    (greater-rises (counterAt layout memories (suc i)) (counterAt layout memories j)
-    (challenge (layoutOf layout) (memories j)) (counter-rises layout events memories n s (suc i) j h (omega arith)) (q .fresh))
+    (greater-rises (counterAt h (suc i)) (counterAt h j) (challenge (layoutOf (h .layout)) (h .memories j))
+    (counter-rises h (suc i) j t (omega arith)) (q .fresh))
 
 pub numbers-increase : claim.NumbersIncrease
-numbers-increase layout events memories n s i j c d h k u v a b =
-    let p = accepted-advances layout events memories n s i c (omega arith) a in
-    let q = accepted-advances layout events memories n s j d k b in
-    let at = layoutOf layout .mr .lo in
+numbers-increase h i j c d u v a b t =
+    let p = accepted-advances h i c a in
+    let q = accepted-advances h j d b in
+    let at = layoutOf (h .layout) .mr .lo in
     number-greater d c (ap length (b .request) ∙ q .long ∙ sym (ap length (a .request) ∙ p .long))
-    (rw (b .request) (bytes-read (memories j) at 32 v))
-    (rw (a .request) (bytes-read (memories i) at 32 u))
-    (increase layout events memories n s i j c d h k a b)
+    (rw (b .request) (bytes-read (h .memories j) at 32 v))
+    (rw (a .request) (bytes-read (h .memories i) at 32 u))
+    (increase h i j c d a b t)
 
 earlier-or-later : {P : Type 0} (i j : ℕ) → (i < j → P) → (j < i → P) → (i ≡ j → P) → P
 earlier-or-later i j f g h =
@@ -193,22 +189,23 @@ earlier-or-later i j f g h =
     between : i ≤ j → j ≤ i → i ≡ j
     between p q = omega arith
 
+-- a challenge that is greater than itself
+never : {P : Type 0} (c : List ℕ) → greater c c ≡ true → P
+never c g = clash (greater c c) g (greater-irreflexive c)
+
 pub never-twice : claim.NeverTwice
-never-twice layout events memories n s i j c h k a b =
-    earlier-or-later i j
-    (λ t. clash (greater c c) (increase layout events memories n s i j c c t k a b) (greater-irreflexive c))
-    (λ t. clash (greater c c) (increase layout events memories n s j i c c t h b a) (greater-irreflexive c))
-    (λ e. e)
+never-twice h i j c a b =
+    earlier-or-later i j (λ t. never c (increase h i j c c a b t)) (λ t. never c (increase h j i c c b a t)) (λ e. e)
 
 pub later-is-larger : claim.LaterIsLarger
-later-is-larger layout events memories n s i j c d h k a b = (
-  λ t. increase layout events memories n s i j c d t k a b,
+later-is-larger h i j c d a b = (
+  increase h i j c d a b,
   λ g. earlier-or-later i j
       (λ t. t)
-      (λ t. clash (greater d d) (greater-trans d c d g (increase layout events memories n s j i d c t h b a)) (greater-irreflexive d))
+      (λ t. never d (greater-trans d c d g (increase h j i d c b a t)))
       (λ e.
-      let f : d ≡ c = b .request ∙ ap (λ (m : ℕ). challenge (layoutOf layout) (memories m)) (sym e) ∙ sym (a .request) in
-      clash (greater d c) g (rw f (greater-irreflexive c))),
+      let f : d ≡ c = b .request ∙ ap (λ (m : ℕ). challenge (layoutOf (h .layout)) (h .memories m)) (sym e) ∙ sym (a .request) in
+      never c (rw f at g)),
 )
 
 -- ---- a history with two requests
@@ -276,16 +273,19 @@ both-served memory layout c d b long good lc ld fresh rises =
     let g : greater d (counter l y) ≡ true = rw e rises in
     let z = request layout b good y d n ld g in
     let m : ℕ → List ℕ = memories memory x y z (accepted l z) in (
-      events,
-      m,
-      refl,
       record {
+        layout = layout;
         layoutBytes = b;
+        n = 4;
+        events = events;
+        memories = m;
         happens = λ i h. four m i h (request-kept layout b good memory c long lc fresh) (served layout b good memory c long lc fresh)
             (request-kept layout b good y d n ld g) (served layout b good y d n ld g);
       },
-      record { event = refl; request = sym (request-is layout b good memory c long lc fresh) },
-      record { event = refl; request = sym (request-is layout b good y d n ld g) },
+      refl,
+      refl,
+      record { happened = omega arith; event = refl; request = sym (request-is layout b good memory c long lc fresh) },
+      record { happened = omega arith; event = refl; request = sym (request-is layout b good y d n ld g) },
     )
   where
     events : ℕ → Event

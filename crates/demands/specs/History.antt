@@ -71,65 +71,56 @@ StepKeeps =
     → Steps memory layout step m room memory′ room′ r → storesCounter (layoutOf layout) m (steps step 0) ≡ false
     → Keeps (layoutOf layout) memory memory′
 
--- n events one after another: memories i is the memory before event i
-pub record History (layout : List ℕ) (events : ℕ → Event) (memories : ℕ → List ℕ) (n : ℕ) : Type 0 where
+-- what happened to a board: n events, where memories i is the memory before event i
+pub record History : Type 0 where
+  pub layout : List ℕ
   pub layoutBytes : Bytes layout
+  pub n : ℕ
+  pub events : ℕ → Event
+  pub memories : ℕ → List ℕ
   pub happens : (i : ℕ) → i < n → Happens layout (events i) (memories i) (memories (suc i))
 
 -- ---- over every history of a board
 
-module _ (layout : List ℕ) (events : ℕ → Event) (memories : ℕ → List ℕ) where
-  -- event i is an accepted request, for the challenge c
-  pub record Accepted (i : ℕ) (c : List ℕ) : Type 0 where
-    pub event : events i ≡ attest Done
-    pub request : c ≡ challenge (layoutOf layout) (memories i)
-
 -- the counter before event i
-abbrev pub counterAt : List ℕ → (ℕ → List ℕ) → ℕ → List ℕ
-counterAt layout memories i = counter (layoutOf layout) (memories i)
+abbrev pub counterAt : History → ℕ → List ℕ
+counterAt h i = counter (layoutOf (h .layout)) (h .memories i)
+
+-- event i is an accepted request, for the challenge c
+pub record Accepted (h : History) (i : ℕ) (c : List ℕ) : Type 0 where
+  pub happened : i < h .n
+  pub event : h .events i ≡ attest Done
+  pub request : c ≡ challenge (layoutOf (h .layout)) (h .memories i)
 
 -- the counter never falls
 abbrev pub CounterRises : Type 0
 CounterRises =
-    (layout : List ℕ) (events : ℕ → Event) (memories : ℕ → List ℕ) (n : ℕ) → History layout events memories n
-    → (i j : ℕ) → i ≤ j → j ≤ n
-    → (counterAt layout memories j ≡ counterAt layout memories i)
-    ⊎ (greater (counterAt layout memories j) (counterAt layout memories i) ≡ true)
+    (h : History) (i j : ℕ) → i ≤ j → j ≤ h .n → (counterAt h j ≡ counterAt h i) ⊎ (greater (counterAt h j) (counterAt h i) ≡ true)
 
--- a challenge that is not greater than the counter is never again
+-- a challenge that is not greater than the counter never is again
 abbrev pub OldStaysOld : Type 0
 OldStaysOld =
-    (layout : List ℕ) (events : ℕ → Event) (memories : ℕ → List ℕ) (n : ℕ) → History layout events memories n
-    → (i j : ℕ) → i ≤ j → j ≤ n → (c : List ℕ)
-    → greater c (counterAt layout memories i) ≡ false → greater c (counterAt layout memories j) ≡ false
+    (h : History) (i j : ℕ) → i ≤ j → j ≤ h .n
+    → (c : List ℕ) → greater c (counterAt h i) ≡ false → greater c (counterAt h j) ≡ false
 
 -- accepted challenges strictly increase
 abbrev pub Increase : Type 0
-Increase =
-    (layout : List ℕ) (events : ℕ → Event) (memories : ℕ → List ℕ) (n : ℕ) → History layout events memories n
-    → (i j : ℕ) (c d : List ℕ) → i < j → j < n
-    → Accepted layout events memories i c → Accepted layout events memories j d → greater d c ≡ true
+Increase = (h : History) (i j : ℕ) (c d : List ℕ) → Accepted h i c → Accepted h j d → i < j → greater d c ≡ true
 
 -- as numbers too
 abbrev pub NumbersIncrease : Type 0
 NumbersIncrease =
-    (layout : List ℕ) (events : ℕ → Event) (memories : ℕ → List ℕ) (n : ℕ) → History layout events memories n
-    → (i j : ℕ) (c d : List ℕ) → i < j → j < n → Bytes (memories i) → Bytes (memories j)
-    → Accepted layout events memories i c → Accepted layout events memories j d → number c < number d
+    (h : History) (i j : ℕ) (c d : List ℕ) → Bytes (h .memories i) → Bytes (h .memories j)
+    → Accepted h i c → Accepted h j d → i < j → number c < number d
 
 -- no challenge is accepted twice
 abbrev pub NeverTwice : Type 0
-NeverTwice =
-    (layout : List ℕ) (events : ℕ → Event) (memories : ℕ → List ℕ) (n : ℕ) → History layout events memories n
-    → (i j : ℕ) (c : List ℕ) → i < n → j < n
-    → Accepted layout events memories i c → Accepted layout events memories j c → i ≡ j
+NeverTwice = (h : History) (i j : ℕ) (c : List ℕ) → Accepted h i c → Accepted h j c → i ≡ j
 
 -- of two accepted checks the later has the larger challenge: sorting by challenge is sorting by time
 abbrev pub LaterIsLarger : Type 0
 LaterIsLarger =
-    (layout : List ℕ) (events : ℕ → Event) (memories : ℕ → List ℕ) (n : ℕ) → History layout events memories n
-    → (i j : ℕ) (c d : List ℕ) → i < n → j < n
-    → Accepted layout events memories i c → Accepted layout events memories j d → (i < j) ↔ (greater d c ≡ true)
+    (h : History) (i j : ℕ) (c d : List ℕ) → Accepted h i c → Accepted h j d → (i < j) ↔ (greater d c ≡ true)
 
 -- ---- what all this is worth
 
@@ -138,11 +129,7 @@ abbrev pub BothServed : Type 0
 BothServed =
     (memory layout c d : List ℕ) → Bytes layout → length memory ≡ memoryBytes → Good layout
     → length c ≡ 32 → length d ≡ 32 → greater c (counter (layoutOf layout) memory) ≡ true → greater d c ≡ true
-    → (events : ℕ → Event) × (memories : ℕ → List ℕ)
-    × (memories 0 ≡ memory)
-    × History layout events memories 4
-    × Accepted layout events memories 1 c
-    × Accepted layout events memories 3 d
+    → (h : History) × (h .layout ≡ layout) × (h .memories 0 ≡ memory) × Accepted h 1 c × Accepted h 3 d
 
 -- and CTR has to be kept: where it falls back below the challenge of a request that was accepted, that request is accepted again
 abbrev pub FallenBack : Type 0

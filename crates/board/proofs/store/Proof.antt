@@ -4,16 +4,17 @@ use Prim.Native.Nat.{_≤_, _-_}
 use native.Mathlib.Omega.{arith}
 use lib.ListN.{length, length-set}
 use lib.Seq.{paste, paste-zero}
-use Rattle.board.proofs.Copies.{in-more, in-whole}
+use Rattle.sha256.proofs.Lists.{copy-more}
+use Rattle.board.proofs.Copies.{stored-all}
 use borrow.Author.Needs.{needs}
 use Rattle.board.proofs.store.Statement.{statement}
 use Rattle.board.proofs.store.Tie as tie
 
 abbrev Inv-loop : tie.InvT-loop
-Inv-loop memory₀ at x i₀ memory i = (i ≤ 32) × (length memory ≡ length memory₀) × (memory ≡ paste memory₀ at x i)
+Inv-loop memory₀ a x i₀ memory i = (i ≤ 32) × (length memory ≡ length memory₀) × (memory ≡ paste memory₀ a x i)
 
 abbrev μ-loop : tie.MeasureT-loop
-μ-loop memory₀ at x i₀ memory i = 32 - i
+μ-loop memory₀ a x i₀ memory i = 32 - i
 
 loop-holds : tie.Need-loop-holds Inv-loop μ-loop
 loop-holds c = (omega arith, refl, paste-zero (c .args .memory .now) (c .args .a) (c .args .x .now))
@@ -36,7 +37,7 @@ loop-less c = search needs
 loop-again : tie.Need-loop-again Inv-loop μ-loop
 loop-again c =
     let z = c .before .before in
-    (omega arith, simp length-set (omega arith), in-more (z .before .args .memory .now) (z .loop .memory) (z .before .args .x .now) (z .before .args .a) (z .loop .i) (z .before .pre .0) (z .before .pre .1) (omega arith) (z .loop .inv .2))
+    (omega arith, simp length-set (omega arith), copy-more (z .before .args .memory .now) (z .before .args .x .now) (z .loop .memory) (z .before .args .a) (z .loop .i) (omega arith) (omega arith) (z .loop .inv .2))
 
 same-length : tie.Need-same-length Inv-loop μ-loop
 same-length c = search needs
@@ -44,7 +45,7 @@ same-length c = search needs
 returns : tie.Need-returns Inv-loop μ-loop
 returns c =
     let z = c .before in
-    in-whole (z .before .args .memory .now) (z .loop .memory) (z .before .args .x .now) (z .before .args .a) (z .loop .i) (omega arith) (z .before .pre .0) (z .before .pre .1) (z .loop .inv .2)
+    stored-all (z .before .args .memory .now) (z .loop .memory) (z .before .args .x .now) (z .before .args .a) (z .loop .i) (omega arith) (z .before .pre .0) (z .before .pre .1) (z .loop .inv .2)
 
 pub store-spec : {M : Type 1} → statement M
 store-spec =

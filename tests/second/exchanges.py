@@ -45,7 +45,7 @@ def outcome(memory: bytearray, layout: bytes = LAYOUT) -> Union[bytes, int]:
 
 
 def exchange_faults() -> Iterator[str]:
-    """The page's layout; key and AR are zeros. Token, one-time key and reply for 7 were worked out with openssl."""
+    """The page's layout; key and AR are zeros. Token, one-time key and reply for 7 were worked out by another program."""
     key, memory = bytes(64), bytearray(board.MEMORY_BYTES)
     seen: list[object] = []
     for number in (0, 7, 7, 8):

@@ -3,10 +3,8 @@ use mathlib.Core.Path.{_≡_, refl, sym, _∙_}
 use mathlib.Core.Logic.{_⊎_, inl, inr}
 use mathlib.Core.Bool.{true, false}
 use mathlib.Core.List.{List}
-use Prim.Native.Nat.{ℕ, _+_, _≤_, _<_}
+use Prim.Native.Nat.{ℕ, _+_, _≤_}
 use native.Mathlib.Omega.{arith}
-use borrow.Author.Tests.{ltb-true, ltb-false}
-use lib.Dec.{ltb}
 use lib.ListN.{length, getD, length-take, length-drop}
 use lib.Seq.{sets, length-sets}
 use Rattle.refusal.specs.Bytes.{Bytes}
@@ -14,14 +12,15 @@ use Rattle.refusal.specs.Numbers.{memorySize, regionsShare, challengeNotGreater
 use Rattle.refusal.specs.Settled.{row-settled}
 use Rattle.refusal.specs.declared.Refusal.{Refusal}
 use Rattle.refusal.specs.declared.Answer.the-variants.{Done, Refused}
-use Rattle.refusal.proofs.Tests.{cases, neither, clash}
+use Rattle.refusal.proofs.Bytes.{bytes-sets}
+use Rattle.refusal.proofs.Tests.{neither}
 use Rattle.refusal.proofs.Order.{Refuses}
 use Rattle.layout.specs.declared.Region.{Region}
 use Rattle.layout.specs.declared.Layout.{Layout}
 use Rattle.layout.specs.Regions.{within, size}
 use Rattle.layout.specs.Layouts.{layoutOf, layoutCheck}
 use Rattle.layout.specs.Calls.{memoryBytes}
-use Rattle.layout.proofs.Laws.{ends-within}
+use Rattle.layout.proofs.Laws.{ends-within, outside-ends}
 use Rattle.layout.proofs.Calls.{call-passed, call-rest, call-numbers}
 use Rattle.layout.proofs.Placed.{Placed}
 use Rattle.routine.specs.Strings.{greater}
@@ -30,7 +29,7 @@ use Rattle.routine.proofs.Laws.{length-reply, request-passed, request-passes, b
 use Rattle.board.specs.Memory.{bytesAt, bytesOf, key, counter, attested, challenge, received, replyAt, replied}
 use Rattle.board.specs.Attestation.{attestCheck, due, accepted, storesTo}
 use Rattle.board.specs.Promises.{Attests}
-use Rattle.board.proofs.Stores.{bytes-agree, stored-there, stored-off, stored-apart, bytes-stored, bytes-read}
+use Rattle.board.proofs.Stores.{bytes-agree, stored-there, stored-off, stored-apart, bytes-read}
 
 -- ---- what is read
 
@@ -98,20 +97,14 @@ module _ (l : Layout) (p : Placed l) (memory : List ℕ) (long : length memory �
       let n = length-challenge in
       let d = length-due l memory in
       let s = p .counter in
-      stored-off first (l .ctr .lo) (challenge l memory) a (elim (off (l .ctr) a (o .1)) [ inl h ↦ inl (omega arith) | inr h ↦ inr (omega arith) ])
-      ∙ stored-off memory (replyAt l) (due l memory) a (elim (off r a (o .0)) [ inl h ↦ inl (omega arith) | inr h ↦ inr (omega arith) ])
-    where
-      off : (r : Region) (k : ℕ) → within r k ≡ false → (k < r .lo) ⊎ (r .hi < k)
-      off r k t =
-          cases (ltb k (r .lo)) (λ b. inl (ltb-true k (r .lo) b))
-          (λ b. cases (ltb (r .hi) k) (λ c. inr (ltb-true (r .hi) k c))
-          (λ c. clash (within r k) (ends-within r k (ltb-false k (r .lo) b) (ltb-false (r .hi) k c)) t))
+      stored-off first (l .ctr .lo) (challenge l memory) a (elim (outside-ends (l .ctr) a (o .1)) [ inl h ↦ inl (omega arith) | inr h ↦ inr (omega arith) ])
+      ∙ stored-off memory (replyAt l) (due l memory) a (elim (outside-ends r a (o .0)) [ inl h ↦ inl (omega arith) | inr h ↦ inr (omega arith) ])
 
 pub bytes-accepted : (l : Layout) (memory : List ℕ) → Bytes memory → Bytes (accepted l memory)
 unfolding accepted due
 bytes-accepted l memory p =
-    bytes-stored _ (l .ctr .lo) (challenge l memory)
-    (bytes-stored memory (replyAt l) (due l memory) p (bytes-reply _ _ _))
+    bytes-sets _ (l .ctr .lo) (challenge l memory)
+    (bytes-sets memory (replyAt l) (due l memory) p (bytes-reply _ _ _))
     (bytes-read memory (l .mr .lo) 32 p)
 
 -- ---- which calls are accepted

@@ -8,6 +8,7 @@ use native.Mathlib.Omega.{arith}
 use lib.ListN.{length, getD, take, drop, set, length-take, length-drop}
 use lib.Seq.{sets, length-sets, sets-eq, getD-set-other, length-take-le, take-at, drop-at, getD-take, getD-drop, ext-getD}
 use Rattle.refusal.specs.Bytes.{Bytes}
+use Rattle.refusal.proofs.Bytes.{bytes-take, bytes-drop}
 use Rattle.board.specs.Memory.{bytesAt}
 
 -- ---- what is read
@@ -85,22 +86,5 @@ stored-apart l a v b n o =
 
 -- ---- bytes stay bytes
 
-bytes-set : (l : List ℕ) (a x : ℕ) → x < 256 → Bytes l → Bytes (set l a x)
-bytes-set [] a x h p i = p i
-bytes-set (y ∷ l) zero x h p zero = h
-bytes-set (y ∷ l) zero x h p (suc i) = p (suc i)
-bytes-set (y ∷ l) (suc a) x h p zero = p zero
-bytes-set (y ∷ l) (suc a) x h p (suc i) = bytes-set l a x h (λ j. p (suc j)) i
-
-pub bytes-stored : (l : List ℕ) (a : ℕ) (v : List ℕ) → Bytes l → Bytes v → Bytes (sets l a v)
-bytes-stored l a [] p q = p
-bytes-stored l a (x ∷ v) p q = bytes-stored (set l a x) (suc a) v (bytes-set l a x (q zero) p) (λ i. q (suc i))
-
-bytes-taken : (n : ℕ) (l : List ℕ) → Bytes l → Bytes (take n l)
-bytes-taken zero l p i = omega arith
-bytes-taken (suc n) [] p i = omega arith
-bytes-taken (suc n) (x ∷ l) p zero = p zero
-bytes-taken (suc n) (x ∷ l) p (suc i) = bytes-taken n l (λ j. p (suc j)) i
-
 pub bytes-read : (l : List ℕ) (a n : ℕ) → Bytes l → Bytes (bytesAt a n l)
-bytes-read l a n p = bytes-taken n (drop a l) (λ i. rw getD-drop (p (a + i)))
+bytes-read l a n p = bytes-take n (drop a l) (bytes-drop a l p)

@@ -11,9 +11,7 @@ use lib.Seq.{getD-take, getD-drop}
 use borrow.Author.Tests.{ltb-true}
 use Rattle.refusal.specs.Choice.{pick}
 use Rattle.refusal.specs.First.{first}
-use Rattle.refusal.specs.Answers.{told}
-use Rattle.refusal.specs.declared.Answer.{Answer}
-use Rattle.refusal.specs.declared.Answer.the-variants.{Done, Refused}
+use Rattle.refusal.specs.declared.Answer.the-variants.{Done}
 use Rattle.refusal.proofs.Tests.{cases}
 use Rattle.refusal.proofs.First.{first-found, first-least, none-found}
 use Rattle.layout.specs.declared.Layout.{Layout}
@@ -23,17 +21,15 @@ use Rattle.rules.specs.declared.Step.{Step}
 use Rattle.rules.specs.declared.Monitor.{Monitor}
 use Rattle.rules.specs.Rules.{rule15, broken, numbered, cause, next}
 use Rattle.rules.proofs.Laws.{held-away, quiet-passes, cause-lowest}
-use Rattle.monitor.specs.declared.Stepped.the-variants as stepped
 use Rattle.monitor.specs.declared.Totals.{Totals}
 use Rattle.monitor.specs.declared.Traced.the-variants as traced
 use Rattle.monitor.specs.Effects.{answer, bytes}
 use Rattle.monitor.specs.Runs.{answerSize, count, steps, begin, before, resetting, roomAfter, totals}
-use Rattle.monitor.specs.Settled.{monitor-settled}
-use Rattle.monitor.specs.Promises.{traceCheck, stepCheck, remembered, steppedRow, Traces}
+use Rattle.monitor.specs.Promises.{traceCheck, stepCheck, Traces}
 use Rattle.monitor.proofs.Laws.{answer-cause, answer-at}
+use Rattle.monitor.proofs.Checks.{traced-judged, stepped-judged}
 use Rattle.demands.specs.Demand2 as claim
 use Rattle.demands.specs.Demand2.{Decides, Decided, monitorBefore, causesIn}
-use Rattle.demands.proofs.Traces.{told-judged}
 
 -- ---- the cause is what the rules give, and nothing else is
 
@@ -85,7 +81,7 @@ module _ (memory layout trace room memory′ room′ : List ℕ) (total : Totals
   remembers n = before l (steps trace) (begin memory) n .monitor
 
   done : (callCheck memory layout (traceCheck trace (length room)) ≡ Done) × (total ≡ totals l trace memory)
-  done = told-judged (callCheck memory layout (traceCheck trace (length room))) total (totals l trace memory) (whole .answered)
+  done = traced-judged (callCheck memory layout (traceCheck trace (length room))) total (totals l trace memory) (whole .answered)
 
   left : room′ ≡ roomAfter l trace memory room
   left = whole .room-left ∙ simp (done .0)
@@ -120,16 +116,12 @@ reset-decision = decided
 
 -- ---- one step
 
-told-stepped : (a : Answer) (m n : Monitor) → steppedRow (stepped.Judged m) ≡ told a (remembered n) → (a ≡ Done) × (m ≡ n)
-told-stepped Done m n e = (refl, monitor-settled m n (cc))
-told-stepped (Refused f) m n e = absurd (let z : _≡_ {A = ℕ} 0 1 = cc in omega arith)
-
 pub step-decision : claim.StepDecision
 unfolding next
 step-decision memory layout step m room memory′ room′ m′ p =
     let l : Layout = layoutOf layout in
     let s : Step = steps step 0 in
-    let d = told-stepped (callCheck memory layout (stepCheck step (length room))) m′ (next l m s) (p .answered) in
+    let d = stepped-judged (callCheck memory layout (stepCheck step (length room))) m′ (next l m s) (p .answered) in
     let e : room′ ≡ bytes (answer l m s memory) ++ drop answerSize room = p .room-left ∙ simp (d .0) in
     let c : getD room′ 0 0 ≡ cause l m s = ap (λ (b : List ℕ). getD b 0 0) e ∙ answer-cause l m s memory in
     (subst (Decides l m s) (sym c) (cause-decides l m s), d .1 ∙ ap (λ (n : ℕ). record { held = not (eqb n 0); last = s .pc }) (sym c))

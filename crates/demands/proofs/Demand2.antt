@@ -23,7 +23,8 @@ use Rattle.layout.proofs.Calls.{call-rest}
 use Rattle.layout.proofs.Placed.{Placed, placed}
 use Rattle.sha256.proofs.Laws.{gives-bytes}
 use Rattle.routine.specs.Routine.{reply, requestCheck}
-use Rattle.routine.proofs.Laws.{token-is, reply-is, length-hmac, length-reply, request-old, request-forged}
+use Rattle.hmac.proofs.Laws.{length-hmac}
+use Rattle.routine.proofs.Laws.{token-is, reply-is, length-reply, request-old, request-forged}
 use Rattle.board.specs.Memory.{bytesAt, key, counter, attested, challenge, received, replyAt, replied}
 use Rattle.board.specs.Attestation.{attestCheck, due, accepted, storesTo}
 use Rattle.board.specs.Promises.{Attests}

@@ -27,7 +27,8 @@ use Rattle.monitor.specs.Runs.{State, count, steps, begin, before, memoryAfter}
 use Rattle.monitor.specs.Promises.{traceCheck, stepCheck}
 use Rattle.routine.specs.Strings.{greater}
 use Rattle.routine.specs.Routine.{token}
-use Rattle.routine.proofs.Laws.{token-is, length-hmac}
+use Rattle.routine.proofs.Laws.{token-is}
+use Rattle.hmac.proofs.Laws.{length-hmac}
 use Rattle.routine.proofs.Order.{greater-irreflexive, greater-trans, number-greater}
 use Rattle.board.specs.Memory.{key, counter, challenge}
 use Rattle.board.specs.Attestation.{attestCheck, accepted}

@@ -2,7 +2,7 @@
 use mathlib.Core.Path.{_≡_, refl, ap, _∙_}
 use mathlib.Core.Logic.{_≢_}
 use mathlib.Core.Bool.{Bool, true, false, not}
-use mathlib.Core.List.{List, [], _∷_, _++_}
+use mathlib.Core.List.{List, _∷_}
 use Prim.Native.Nat.{ℕ, zero, suc, _+_, _-_, _*_, _/_, _%_, _^_, _≤_, _<_}
 use native.Mathlib.Nat.{not-suc-le-zero}
 use native.Mathlib.Omega.{arith}
@@ -13,6 +13,7 @@ use borrow.Author.Tests.{eqb-true, eqb-false, ltb-true, ltb-false, lt-ltb, le-lt
 use Rattle.refusal.specs.Bytes.{Bytes}
 use Rattle.refusal.specs.Choice.{pick}
 use Rattle.refusal.specs.declared.Answer.the-variants.{Done}
+use Rattle.refusal.proofs.Bytes.{bytes-cons, bytes-append}
 use Rattle.refusal.proofs.Tests.{cases}
 use Rattle.refusal.proofs.First.{found-none}
 use Rattle.layout.specs.declared.Layout.{Layout}
@@ -256,15 +257,6 @@ trace-attests memory layout memory′ room memory″ room′ r h a c k =
     (judged memory layout memory′ h a room memory″ room′ r c k, left memory layout memory′ h a room memory″ room′ r c k)
 
 -- ---- the trace is bytes
-
-bytes-cons : (x : ℕ) (v : List ℕ) → x < 256 → Bytes v → Bytes (x ∷ v)
-bytes-cons x v h k zero = h
-bytes-cons x v h k (suc i) = k i
-
-bytes-append : (v w : List ℕ) → Bytes v → Bytes w → Bytes (v ++ w)
-bytes-append [] w h k i = k i
-bytes-append (x ∷ v) w h k zero = h 0
-bytes-append (x ∷ v) w h k (suc i) = bytes-append v w (λ j. h (suc j)) k i
 
 -- a step of 16-bit addresses and of bytes
 record Small (s : Step) : Type 0 where

@@ -12,9 +12,7 @@ use lib.Seq.{take-append-le, drop-append-le, drop-append-add}
 use borrow.Author.Tests.{eqb-true, eqb-false, ne-eqb, not-true, not-false}
 use Rattle.refusal.specs.Choice.{pick}
 use Rattle.refusal.specs.First.{first}
-use Rattle.refusal.specs.Answers.{told}
-use Rattle.refusal.specs.declared.Answer.{Answer}
-use Rattle.refusal.specs.declared.Answer.the-variants.{Done, Refused}
+use Rattle.refusal.specs.declared.Answer.the-variants.{Done}
 use Rattle.refusal.proofs.Tests.{cases, clash, both}
 use Rattle.layout.specs.declared.Layout.{Layout}
 use Rattle.layout.specs.Layouts.{layoutOf, layoutCheck}
@@ -32,10 +30,10 @@ use Rattle.monitor.specs.declared.Totals.{Totals}
 use Rattle.monitor.specs.declared.Traced.the-variants as traced
 use Rattle.monitor.specs.Effects.{cpuExposed, dmaExposed, exposing, answer, bytes, lands, written}
 use Rattle.monitor.specs.Runs.{State, stepSize, answerSize, count, stepBytes, steps, begin, before, said, resetting, totals}
-use Rattle.monitor.specs.Settled.{traced-row-settled, stepped-row-settled}
+use Rattle.monitor.specs.Settled.{stepped-row-settled}
 use Rattle.monitor.proofs.Laws.{length-before, written-byte, answer-at}
-use Rattle.monitor.proofs.Checks.{Fitting, trace-passed, one-step, one-passes}
-use Rattle.monitor.specs.Promises.{traceCheck, stepCheck, values, tracedRow, Traces}
+use Rattle.monitor.proofs.Checks.{traced-judged, Fitting, trace-passed, one-step, one-passes}
+use Rattle.monitor.specs.Promises.{traceCheck, stepCheck, Traces}
 use Rattle.demands.specs.Traces as claim
 use Rattle.demands.specs.Traces.{crOrKr, ctrOrXs, remembers, causeAt, resetsAt}
 use Rattle.demands.proofs.Runs.{in-parts}
@@ -242,10 +240,6 @@ parts-of-bytes l b c x n k e =
 
 -- ---- a trace by one-step calls
 
-pub told-judged : (a : Answer) (r q : Totals) → tracedRow (traced.Judged r) ≡ told a (values q) → (a ≡ Done) × (r ≡ q)
-told-judged Done r q e = (refl, cc (traced-row-settled (traced.Judged r) (traced.Judged q) e))
-told-judged (Refused f) r q e = absurd (let z : _≡_ {A = ℕ} 0 1 = cc in omega arith)
-
 module _ (memory layout trace room memory′ room′ : List ℕ) (total : Totals)
     (monitors : ℕ → Monitor) (memories rooms rooms′ : ℕ → List ℕ) (r : ℕ → Stepped)
     (whole : Traces memory layout trace room memory′ room′ (traced.Judged total))
@@ -256,7 +250,7 @@ module _ (memory layout trace room memory′ room′ : List ℕ) (total : Totals
 
   whole-done : (callCheck memory layout (traceCheck trace (length room)) ≡ Done)
       × (total ≡ totals (layoutOf layout) trace memory)
-  whole-done = told-judged (callCheck memory layout (traceCheck trace (length room))) total (totals (layoutOf layout) trace memory) (whole .answered)
+  whole-done = traced-judged (callCheck memory layout (traceCheck trace (length room))) total (totals (layoutOf layout) trace memory) (whole .answered)
 
   tests : (length memory ≡ memoryBytes) × (layoutCheck layout ≡ Done) × (traceCheck trace (length room) ≡ Done)
   tests = call-passed memory layout (traceCheck trace (length room)) (whole-done .0)

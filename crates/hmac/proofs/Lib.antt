@@ -1,3 +1,4 @@
 pub mod Keys
 pub mod Masks
 pub mod Behind
+pub mod Laws

@@ -2,7 +2,7 @@
 use mathlib.Core.Path.{_≡_, refl, sym, ap, _∙_}
 use mathlib.Core.Bool.{Bool, true, false, not, _&&_, true≢false}
 use mathlib.Core.List.{List}
-use mathlib.Core.Logic.{_↔_}
+use mathlib.Core.Logic.{_↔_, _⊎_, inl, inr}
 use Prim.Native.Nat.{ℕ, _+_, _*_, _/_, _%_, _≤_, _<_}
 use native.Mathlib.Omega.{arith}
 use borrow.Author.Tests.{leb-true, le-leb, ltb-true, ltb-false, lt-ltb, le-ltb, eqb-true, eq-eqb, not-true, not-false}
@@ -13,7 +13,7 @@ use Rattle.refusal.specs.Numbers.{layoutSize, regionReversed, regionSize, zeroI
 use Rattle.refusal.specs.declared.Refusal.{Refusal}
 use Rattle.refusal.specs.declared.Answer.{Answer}
 use Rattle.refusal.specs.declared.Answer.the-variants.{Done, Refused}
-use Rattle.refusal.proofs.Tests.{cases, untrue, both, neither}
+use Rattle.refusal.proofs.Tests.{cases, untrue, clash, both, neither}
 use Rattle.refusal.proofs.First.{none-found, found-none}
 use Rattle.refusal.proofs.Order.{done-passed, Refuses, refuses-none, refuses-test}
 use Rattle.layout.specs.declared.Region.{Region}
@@ -67,6 +67,12 @@ within-ends r a e =
 
 pub ends-within : (r : Region) (a : ℕ) → r .lo ≤ a → a ≤ r .hi → within r a ≡ true
 ends-within r a l h = simp (le-leb (r .lo) a l, le-leb a (r .hi) h)
+
+pub outside-ends : (r : Region) (a : ℕ) → within r a ≡ false → (a < r .lo) ⊎ (r .hi < a)
+outside-ends r a e =
+    cases (ltb a (r .lo)) (λ t. inl (ltb-true a (r .lo) t))
+    (λ t. cases (ltb (r .hi) a) (λ s. inr (ltb-true (r .hi) a s))
+    (λ s. clash (within r a) (ends-within r a (ltb-false a (r .lo) t) (ltb-false (r .hi) a s)) e))
 
 pub shares-at : (a b : Region) (k : ℕ) → within a k ≡ true → within b k ≡ true → shares a b ≡ true
 shares-at a b k p q =

@@ -1,5 +1,5 @@
 -- The checks of the calls: what has passed, and what then passes too. Assumes nothing.
-use mathlib.Core.Path.{_≡_, ap}
+use mathlib.Core.Path.{_≡_, refl, ap}
 use mathlib.Core.Bool.{false, not, _||_}
 use mathlib.Core.List.{List}
 use Prim.Native.Nat.{ℕ, _*_, _%_, _≤_, _<_}
@@ -9,13 +9,20 @@ use lib.ListN.{length, drop, length-take, length-drop}
 use lib.Seq.{take-take}
 use borrow.Author.Tests.{eqb-true, eq-eqb, ltb-false, le-ltb, not-false}
 use Rattle.refusal.specs.Numbers.{roomSize, stepNotZero}
-use Rattle.refusal.specs.declared.Answer.the-variants.{Done}
+use Rattle.refusal.specs.Answers.{told}
+use Rattle.refusal.specs.declared.Answer.{Answer}
+use Rattle.refusal.specs.declared.Answer.the-variants.{Done, Refused}
 use Rattle.refusal.proofs.Tests.{neither}
 use Rattle.refusal.proofs.First.{none-found}
 use Rattle.refusal.proofs.Order.{done-passed}
 use Rattle.rules.specs.Steps.{stepOf}
+use Rattle.rules.specs.declared.Monitor.{Monitor}
+use Rattle.monitor.specs.declared.Totals.{Totals}
+use Rattle.monitor.specs.declared.Stepped.the-variants as stepped
+use Rattle.monitor.specs.declared.Traced.the-variants as traced
 use Rattle.monitor.specs.Runs.{stepSize, answerSize, count, stepBytes, steps}
-use Rattle.monitor.specs.Promises.{mostSteps, unclean, firstUnclean, traceCheck, stepCheck}
+use Rattle.monitor.specs.Promises.{mostSteps, unclean, firstUnclean, traceCheck, stepCheck, values, tracedRow, remembered, steppedRow}
+use Rattle.monitor.specs.Settled.{monitor-settled, traced-row-settled}
 
 -- a trace that passes is whole steps, not too many, with room for the answers, and each step is clean
 pub record Fitting (trace : List ℕ) (room : ℕ) : Type 0 where
@@ -61,3 +68,13 @@ module _ (trace : List ℕ) (room : ℕ) (f : Fitting trace room) (i : ℕ) (h :
   unfolding stepCheck
   one-passes space r =
       simp (eq-eqb (length (stepBytes trace i)) stepSize one-length, le-ltb space answerSize r, one-bytes, f .clean i h)
+
+-- ---- what a call that is not refused has told
+
+pub traced-judged : (a : Answer) (t u : Totals) → tracedRow (traced.Judged t) ≡ told a (values u) → (a ≡ Done) × (t ≡ u)
+traced-judged Done t u e = (refl, cc (traced-row-settled (traced.Judged t) (traced.Judged u) e))
+traced-judged (Refused f) t u e = absurd (let z : _≡_ {A = ℕ} 0 1 = cc in omega arith)
+
+pub stepped-judged : (a : Answer) (m n : Monitor) → steppedRow (stepped.Judged m) ≡ told a (remembered n) → (a ≡ Done) × (m ≡ n)
+stepped-judged Done m n e = (refl, monitor-settled m n (cc))
+stepped-judged (Refused f) m n e = absurd (let z : _≡_ {A = ℕ} 0 1 = cc in omega arith)

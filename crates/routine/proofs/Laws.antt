@@ -13,9 +13,8 @@ use Rattle.refusal.specs.Numbers.{challengeNotGreater, tokenDiffers}
 use Rattle.refusal.specs.declared.Answer.the-variants.{Done}
 use Rattle.refusal.proofs.Tests.{untrue}
 use Rattle.refusal.proofs.Order.{done-passed, Refuses, refuses-none, refuses-test}
-use Rattle.sha256.proofs.Laws.{length-sha256}
-use Rattle.sha256.proofs.Bytes.{bytes-sha256}
 use Rattle.hmac.specs.Hmac.{hmac}
+use Rattle.hmac.proofs.Laws.{length-hmac, bytes-hmac}
 use Rattle.routine.specs.Strings.{greater, same}
 use Rattle.routine.specs.Routine.{token, oneTimeKey, replyTo, reply, requestCheck}
 use Rattle.routine.proofs.Order.{equal-same, same-equal}
@@ -30,10 +29,6 @@ pub reply-is : (k challenge region : List ℕ) → reply k challenge region ≡ 
 unfolding reply replyTo oneTimeKey token
 reply-is k challenge region = refl
 
-pub length-hmac : (k m : List ℕ) → length (hmac k m) ≡ 32
-unfolding hmac
-length-hmac k m = length-sha256 _
-
 pub length-reply : (k challenge region : List ℕ) → length (reply k challenge region) ≡ 32
 unfolding reply replyTo
 length-reply k challenge region = length-hmac _ region
@@ -42,10 +37,6 @@ length-reply k challenge region = length-hmac _ region
 pub reply-to-is : (k challenge t region : List ℕ) → token k challenge ≡ t → replyTo k t region ≡ reply k challenge region
 unfolding reply
 reply-to-is k challenge t region e = ap (λ (x : List ℕ). replyTo k x region) (sym e)
-
-pub bytes-hmac : (k m : List ℕ) → Bytes (hmac k m)
-unfolding hmac
-bytes-hmac k m = bytes-sha256 _
 
 pub bytes-reply : (k challenge region : List ℕ) → Bytes (reply k challenge region)
 unfolding reply replyTo

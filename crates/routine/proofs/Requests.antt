@@ -3,9 +3,6 @@ use mathlib.Core.Path.{_≡_, refl, subst, _∙_}
 use mathlib.Core.Bool.{Bool, true, false, _||_}
 use mathlib.Core.List.{List, []}
 use Prim.Native.Nat.{ℕ}
-use native.Mathlib.Omega.{arith}
-use borrow.Author.Tests.{le-ltb}
-use lib.ListN.{length}
 use Rattle.refusal.specs.Answers.{row, refusedWith}
 use Rattle.refusal.specs.Numbers.{challengeNotGreater, tokenDiffers, lengthOrTotal}
 use Rattle.refusal.specs.declared.Answer.{Answer}
@@ -16,22 +13,15 @@ use Rattle.sha256.specs.Promises.{Gives}
 use Rattle.sha256.proofs.Laws.{gives-bytes}
 use Rattle.sha256.proofs.Answers.{gives-given, gives-refused}
 use Rattle.hmac.specs.Hmac.{hmac}
-use Rattle.hmac.specs.Promises.{most, long, Macs}
+use Rattle.hmac.specs.Promises.{long, Macs}
+use Rattle.hmac.proofs.Laws.{hmac-short, mac-bytes}
 use Rattle.routine.specs.Strings.{greater, same}
 use Rattle.routine.specs.Routine.{token, oneTimeKey, replyTo, reply, requestCheck}
 use Rattle.routine.specs.Promises.{Tokens, RepliesTo, Replies, Authorises}
-use Rattle.routine.proofs.Laws.{length-hmac}
 
 pub token-made : (k challenge : List ℕ) (r : Digest) → Macs k challenge r → Tokens k challenge r
 unfolding token
 token-made k challenge r p = p
-
--- what is made is short
-hmac-short : (k m : List ℕ) → long (hmac k m) ≡ false
-hmac-short k m = le-ltb most (length (hmac k m)) (omega (arith, length-hmac k m))
-
-mac-bytes : (k m : List ℕ) (r : Digest) → long k ≡ false → long m ≡ false → Macs k m r → r .bytes ≡ hmac k m
-mac-bytes k m r p q e = gives-bytes e (simp (p, q))
 
 pub reply-to-made : (k t region : List ℕ) (o r : Digest) → (long k || long t || long region) ≡ false
     → Macs k t o → Macs (o .bytes) region r → RepliesTo k t region r

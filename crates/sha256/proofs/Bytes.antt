@@ -1,18 +1,14 @@
 -- A digest is bytes. Assumes nothing.
-use mathlib.Core.List.{List, [], _∷_, _++_}
+use mathlib.Core.List.{List}
 use Prim.Native.Nat.{ℕ, zero, suc, _*_, _/_, _%_, _^_, _<_}
 use native.Mathlib.Omega.{arith}
 use lib.ListN.{getD}
 use Rattle.refusal.specs.Bytes.{Bytes}
+use Rattle.refusal.proofs.Bytes.{bytes-append}
 use Rattle.sha256_block.specs.Words.{bytes}
 use Rattle.sha256_block.specs.Constants.{H}
 use Rattle.sha256_block.specs.Block.{whole}
 use Rattle.sha256.specs.Hash.{padded, out, sha256}
-
-bytes-joined : (a b : List ℕ) → Bytes a → Bytes b → Bytes (a ++ b)
-bytes-joined [] b p q i = q i
-bytes-joined (x ∷ a) b p q zero = p zero
-bytes-joined (x ∷ a) b p q (suc i) = bytes-joined a b (λ j. p (suc j)) q i
 
 low-byte : (x : ℕ) → x % 2 ^ 8 < 256
 low-byte x = omega arith
@@ -26,7 +22,7 @@ bytes-bytes (suc n) x (suc i) = bytes-bytes n x i
 bytes-out : (s : List ℕ) (n : ℕ) → Bytes (out s n)
 unfolding out
 bytes-out s zero i = omega arith
-bytes-out s (suc n) i = bytes-joined (out s n) (bytes 4 (getD s n 0)) (bytes-out s n) (bytes-bytes 4 (getD s n 0)) i
+bytes-out s (suc n) i = bytes-append (out s n) (bytes 4 (getD s n 0)) (bytes-out s n) (bytes-bytes 4 (getD s n 0)) i
 
 pub bytes-sha256 : (m : List ℕ) → Bytes (sha256 m)
 unfolding sha256

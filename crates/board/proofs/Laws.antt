@@ -1,6 +1,6 @@
 -- What attestation reads and what an accepted call leaves, for readers and for the crates above. Assumes nothing.
 use mathlib.Core.Path.{_≡_, refl, sym, _∙_}
-use mathlib.Core.Logic.{_⊎_, inl, inr}
+use mathlib.Core.Logic.{inl, inr}
 use mathlib.Core.Bool.{true, false}
 use mathlib.Core.List.{List}
 use Prim.Native.Nat.{ℕ, _+_, _≤_}
@@ -8,7 +8,6 @@ use native.Mathlib.Omega.{arith}
 use lib.ListN.{length, getD, length-take, length-drop}
 use lib.Seq.{sets, length-sets}
 use Rattle.refusal.specs.Bytes.{Bytes}
-use Rattle.refusal.specs.Numbers.{memorySize, regionsShare, challengeNotGreater, tokenDiffers}
 use Rattle.refusal.specs.Settled.{row-settled}
 use Rattle.refusal.specs.declared.Refusal.{Refusal}
 use Rattle.refusal.specs.declared.Answer.the-variants.{Done, Refused}
@@ -27,7 +26,7 @@ use Rattle.routine.specs.Strings.{greater}
 use Rattle.routine.specs.Routine.{token, reply}
 use Rattle.routine.proofs.Laws.{length-reply, request-passed, request-passes, bytes-reply, request-numbers}
 use Rattle.board.specs.Memory.{bytesAt, bytesOf, key, counter, attested, challenge, received, replyAt, replied}
-use Rattle.board.specs.Attestation.{attestCheck, due, accepted, storesTo}
+use Rattle.board.specs.Attestation.{attestCheck, Listed, due, accepted, storesTo}
 use Rattle.board.specs.Promises.{Attests}
 use Rattle.board.proofs.Stores.{bytes-agree, stored-there, stored-off, stored-apart, bytes-read}
 
@@ -128,9 +127,6 @@ unfolding attestCheck
 allowed-done memory layout a = call-rest memory layout _ (a .long) (a .laid) ∙ request-passes _ _ _ _ (a .fresh) (a .genuine)
 
 -- the others are refused with 1 to 6, 10 or 11
-abbrev pub Listed : ℕ → Type 0
-Listed n = ((memorySize ≤ n) × (n ≤ regionsShare)) ⊎ ((challengeNotGreater ≤ n) × (n ≤ tokenDiffers))
-
 pub attest-numbers : (memory layout : List ℕ) → Refuses Listed (attestCheck memory layout)
 unfolding attestCheck
 attest-numbers memory layout =

@@ -1,8 +1,10 @@
 -- Attestation on a board's memory. Assumes nothing.
+use mathlib.Core.Logic.{_⊎_}
 use mathlib.Core.Bool.{Bool, _||_}
 use mathlib.Core.List.{List}
-use Prim.Native.Nat.{ℕ, _+_}
+use Prim.Native.Nat.{ℕ, _+_, _≤_}
 use lib.Seq.{sets}
+use Rattle.refusal.specs.Numbers.{memorySize, regionsShare, challengeNotGreater, tokenDiffers}
 use Rattle.refusal.specs.declared.Answer.{Answer}
 use Rattle.layout.specs.declared.Layout.{Layout}
 use Rattle.layout.specs.Regions.{within}
@@ -16,6 +18,10 @@ unfoldable pub attestCheck : List ℕ → List ℕ → Answer
 attestCheck memory layout =
     let l = layoutOf layout in
     callCheck memory layout (requestCheck (key l memory) (challenge l memory) (received l memory) (counter l memory))
+
+-- their numbers
+abbrev pub Listed : ℕ → Type 0
+Listed n = ((memorySize ≤ n) × (n ≤ regionsShare)) ⊎ ((challengeNotGreater ≤ n) × (n ≤ tokenDiffers))
 
 -- step 3: the reply that the routine works out
 unfoldable pub due : Layout → List ℕ → List ℕ

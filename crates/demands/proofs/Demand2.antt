@@ -31,10 +31,11 @@ use Rattle.board.specs.Promises.{Attests}
 use Rattle.board.proofs.Stores.{read-same, read-inside}
 use Rattle.board.proofs.Laws as board
 use Rattle.board.proofs.Laws.{Allowed, done-allowed, allowed-done, attested-done, attested-refused, due-is}
+use Rattle.station.specs.Lengths.{Lengths}
 use Rattle.station.specs.Promises.{checkUnfit, ChecksReply}
-use Rattle.station.proofs.Laws.{Fit, token-fits, check-fits, fits-check, said-yes, says-yes, said-no, says-no, said-refused, says-refused}
+use Rattle.station.proofs.Laws.{token-fits, lengths-fit, fit-lengths, said-yes, says-yes, said-no, says-no, said-refused, says-refused}
 use Rattle.demands.specs.Demand2 as claim
-use Rattle.demands.specs.Demand2.{Answers, SameRequest, Lengths, Agrees, posted}
+use Rattle.demands.specs.Demand2.{Answers, SameRequest, Agrees, posted}
 use Rattle.demands.proofs.Posted.{posted-long, posted-challenge, posted-received, posted-key, posted-counter}
 
 -- ---- the routine, on the board
@@ -167,35 +168,28 @@ frame layout x y x′ y′ r q b s p p′ =
 
 -- ---- the station
 
-module _ (k c given region : List ℕ) where
-  fit-lengths : Fit k c given region → Lengths k c given region
-  fit-lengths f = record { key = f .0; challenge = f .1; reply = f .2; some = f .3; most = f .4 }
-
-  lengths-fit : Lengths k c given region → Fit k c given region
-  lengths-fit n = (n .key, n .challenge, n .reply, n .some, n .most)
-
 pub yes-exactly : claim.YesExactly
 yes-exactly k c given region v p = (
   λ e.
       let y = said-yes (subst (ChecksReply k c given region) e p) in
-      (fit-lengths k c given region (y .0), y .1 ∙ reply-is k c region),
-  λ h. says-yes v p (lengths-fit k c given region (h .0)) (h .1 ∙ sym (reply-is k c region)),
+      (y .0, y .1 ∙ reply-is k c region),
+  λ h. says-yes v p (h .0) (h .1 ∙ sym (reply-is k c region)),
 )
 
 pub no-exactly : claim.NoExactly
 no-exactly k c given region v p = (
   λ e.
       let n = said-no (subst (ChecksReply k c given region) e p) in
-      (fit-lengths k c given region (n .0), λ h. n .1 (h ∙ sym (reply-is k c region))),
-  λ h. says-no v p (lengths-fit k c given region (h .0)) (λ e. h .1 (e ∙ reply-is k c region)),
+      (n .0, λ h. n .1 (h ∙ sym (reply-is k c region))),
+  λ h. says-no v p (h .0) (λ e. h .1 (e ∙ reply-is k c region)),
 )
 
 pub refuses-exactly : claim.RefusesExactly
 refuses-exactly k c given region v p =
     let u = checkUnfit k c given region in (
       λ e n.
-          clash u (said-refused _ (subst (ChecksReply k c given region) e p)) (check-fits k c given region (lengths-fit k c given region n)),
-      λ f. cases u (λ t. says-refused v p t) (λ t. absurd (f (fit-lengths k c given region (fits-check k c given region t)))),
+          clash u (said-refused _ (subst (ChecksReply k c given region) e p)) (lengths-fit k c given region n),
+      λ f. cases u (λ t. says-refused v p t) (λ t. absurd (f (fit-lengths k c given region t))),
     )
 
 pub yes-twice : claim.YesTwice
@@ -211,11 +205,17 @@ module _ (memory layout memory′ : List ℕ) (b : Bytes layout) (p : Attests me
   replied-is = replied-due memory layout memory′ b p ∙ due-is l memory
 
   fit : (expected : List ℕ) → 1 ≤ length expected → length expected ≤ 65536
-      → Fit (key l memory) (challenge l memory) (replied l memory′) expected
+      → Lengths (key l memory) (challenge l memory) (replied l memory′) expected
   fit expected some most =
       let n = allowed memory layout memory′ b p .long in
       let w = lies memory layout memory′ b p in
-      (board.length-key l w memory n, board.length-challenge l w memory n, ap length replied-is ∙ length-reply _ _ _, some, most)
+      record {
+        key = board.length-key l w memory n;
+        challenge = board.length-challenge l w memory n;
+        reply = ap length replied-is ∙ length-reply _ _ _;
+        some = some;
+        most = most;
+      }
 
   agrees : Agrees l memory memory′
   agrees =

@@ -1,7 +1,7 @@
 -- The claims about attestation as a trace hold. Assumes nothing.
 use mathlib.Core.Path.{_≡_, refl, ap, _∙_}
 use mathlib.Core.Logic.{_≢_}
-use mathlib.Core.Bool.{Bool, true, false, not}
+use mathlib.Core.Bool.{Bool, true, false}
 use mathlib.Core.List.{List, _∷_}
 use Prim.Native.Nat.{ℕ, zero, suc, _+_, _-_, _*_, _/_, _%_, _^_, _≤_, _<_}
 use native.Mathlib.Nat.{not-suc-le-zero}
@@ -33,7 +33,7 @@ use Rattle.monitor.specs.Runs.{State, stepSize, answerSize, count, stepBytes, s
 use Rattle.monitor.specs.Promises.{mostSteps, unclean, traceCheck, Traces}
 use Rattle.monitor.specs.Settled.{traced-row-settled}
 use Rattle.board.specs.Memory.{challenge, replyAt}
-use Rattle.board.specs.Attestation.{due, accepted}
+use Rattle.board.specs.Attestation.{due}
 use Rattle.board.specs.Promises.{Attests}
 use Rattle.board.proofs.Stores.{bytes-read}
 use Rattle.board.proofs.Laws.{bytes-due, attested-done}

@@ -2,7 +2,7 @@
 -- over HMAC-SHA-256; the station says yes exactly to the reply that the routine works out.
 -- Definitions and claims; the proofs are in proofs/: Decisions and Demand2. Assumes nothing.
 use mathlib.Core.Path.{_≡_}
-use mathlib.Core.Logic.{_≢_, _⊎_, _↔_}
+use mathlib.Core.Logic.{_≢_, _↔_}
 use mathlib.Core.Bool.{true, false, not}
 use mathlib.Core.List.{List}
 use Prim.Native.Nat.{ℕ, zero, suc, _+_, _*_, _≤_, _<_}
@@ -12,7 +12,7 @@ use lib.Seq.{sets}
 use Rattle.refusal.specs.Bytes.{Bytes}
 use Rattle.refusal.specs.Choice.{pick}
 use Rattle.refusal.specs.Answers.{refusedAt}
-use Rattle.refusal.specs.Numbers.{memorySize, regionsShare, challengeNotGreater, tokenDiffers, lengthOrTotal}
+use Rattle.refusal.specs.Numbers.{challengeNotGreater, tokenDiffers, lengthOrTotal}
 use Rattle.refusal.specs.declared.Refusal.{Refusal}
 use Rattle.refusal.specs.declared.Answer.{Answer}
 use Rattle.refusal.specs.declared.Answer.the-variants as call
@@ -33,10 +33,11 @@ use Rattle.hmac.specs.Hmac.{hmac}
 use Rattle.routine.specs.Strings.{greater}
 use Rattle.routine.specs.Routine.{reply}
 use Rattle.board.specs.Memory.{bytesAt, key, counter, attested, challenge, received, replied}
-use Rattle.board.specs.Attestation.{storesTo}
+use Rattle.board.specs.Attestation.{Listed, storesTo}
 use Rattle.board.specs.Promises.{Attests}
 use Rattle.station.specs.declared.Verdict.{Verdict}
 use Rattle.station.specs.declared.Verdict.the-variants.{Yes, No, Refused}
+use Rattle.station.specs.Lengths.{Lengths}
 use Rattle.station.specs.Promises.{MakesToken, ChecksReply}
 
 -- ---- the reset decision
@@ -117,8 +118,7 @@ AnswersSo =
 abbrev pub RefusesSo : Type 0
 RefusesSo =
     (memory layout memory′ : List ℕ) (q : Refusal) → Attests memory layout memory′ (call.Refused q)
-    → (((memorySize ≤ q .number) × (q .number ≤ regionsShare)) ⊎ ((challengeNotGreater ≤ q .number) × (q .number ≤ tokenDiffers)))
-    × (memory′ ≡ memory)
+    → Listed (q .number) × (memory′ ≡ memory)
 
 -- an old request, for a challenge that is not greater than CTR, is refused with 10 whatever its token
 abbrev pub OldRefused : Type 0
@@ -160,14 +160,6 @@ Frame =
     → (r ≡ q) × (r ≡ call.Done → (a : ℕ) → storesTo (layoutOf layout) a ≡ true → getD x′ a 0 ≡ getD y′ a 0)
 
 -- ---- the station
-
--- a key of 64 bytes, a challenge and a reply of 32, a region of 1 to 65,536
-pub record Lengths (k c given region : List ℕ) : Type 0 where
-  pub key : length k ≡ 64
-  pub challenge : length c ≡ 32
-  pub reply : length given ≡ 32
-  pub some : 1 ≤ length region
-  pub most : length region ≤ 65536
 
 -- the station says yes exactly to the reply that the routine works out
 abbrev pub YesExactly : Type 0

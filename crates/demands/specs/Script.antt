@@ -13,7 +13,7 @@ use Rattle.layout.specs.Layouts.{layoutOf}
 use Rattle.rules.specs.declared.Step.{Step}
 use Rattle.monitor.specs.declared.Traced.{Traced}
 use Rattle.monitor.specs.declared.Traced.the-variants as traced
-use Rattle.monitor.specs.Runs.{steps, before}
+use Rattle.monitor.specs.Runs.{steps}
 use Rattle.monitor.specs.Promises.{Traces}
 use Rattle.board.specs.Promises.{Attests}
 use Rattle.demands.specs.Marked.{at}

@@ -14,7 +14,7 @@ use Rattle.layout.specs.Layouts.{layoutOf}
 use Rattle.layout.specs.Good.{Good}
 use Rattle.layout.specs.Regions.{within}
 use Rattle.rules.specs.declared.Step.{Step}
-use Rattle.monitor.specs.Runs.{State, steps, before}
+use Rattle.monitor.specs.Runs.{State, before}
 use Rattle.board.specs.Memory.{challenge, replyAt}
 use Rattle.board.specs.Attestation.{due}
 use Rattle.board.specs.Promises.{Attests}

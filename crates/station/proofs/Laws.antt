@@ -3,7 +3,7 @@ use mathlib.Core.Path.{_≡_, refl, _∙_}
 use mathlib.Core.Logic.{_≢_}
 use mathlib.Core.Bool.{Bool, true, false, _||_}
 use mathlib.Core.List.{List, [], _∷_}
-use Prim.Native.Nat.{ℕ, _≤_}
+use Prim.Native.Nat.{ℕ}
 use native.Mathlib.Omega.{arith}
 use lib.Dec.{eqb, ltb}
 use lib.ListN.{length}
@@ -19,6 +19,7 @@ use Rattle.routine.specs.Routine.{reply}
 use Rattle.routine.proofs.Order.{same-equal, equal-same}
 use Rattle.station.specs.declared.Verdict.{Verdict}
 use Rattle.station.specs.declared.Verdict.the-variants.{Yes, No, Refused}
+use Rattle.station.specs.Lengths.{Lengths}
 use Rattle.station.specs.Promises.{notOf, tokenUnfit, checkUnfit, row, ChecksReply}
 use Rattle.station.specs.Settled.{verdict-settled}
 
@@ -34,26 +35,33 @@ pub token-fits : (k challenge : List ℕ) → length k ≡ 64 → length challen
 token-fits k challenge a b = simp (length-of 64 k a, length-of 32 challenge b)
 
 module _ (k challenge given region : List ℕ) where
-  -- the lengths that `check` asks for
-  abbrev pub Fit : Type 0
-  Fit =
-      (length k ≡ 64) × (length challenge ≡ 32) × (length given ≡ 32) × (1 ≤ length region) × (length region ≤ 65536)
-
-  pub check-fits : Fit → checkUnfit k challenge given region ≡ false
-  check-fits f =
-      let s = f .3 in
+  pub lengths-fit : Lengths k challenge given region → checkUnfit k challenge given region ≡ false
+  lengths-fit f =
+      let s = f .some in
       let n = ne-eqb (length region) 0 (λ e. omega arith) in
-      simp (length-of 64 k (f .0), length-of 32 challenge (f .1), length-of 32 given (f .2), n, le-ltb 65536 (length region) (f .4))
+      simp (
+        length-of 64 k (f .key),
+        length-of 32 challenge (f .challenge),
+        length-of 32 given (f .reply),
+        n,
+        le-ltb 65536 (length region) (f .most),
+      )
 
-  pub fits-check : checkUnfit k challenge given region ≡ false → Fit
-  fits-check e =
+  pub fit-lengths : checkUnfit k challenge given region ≡ false → Lengths k challenge given region
+  fit-lengths e =
       let u = tokenUnfit k challenge in
       let p = neither (u || notOf 32 given || eqb (length region) 0) (ltb 65536 (length region)) e in
       let q = neither (u || notOf 32 given) (eqb (length region) 0) (p .0) in
       let s = neither u (notOf 32 given) (q .0) in
       let t = neither (notOf 64 k) (notOf 32 challenge) (s .0) in
       let n = eqb-false (length region) 0 (q .1) in
-      (of-length 64 k (t .0), of-length 32 challenge (t .1), of-length 32 given (s .1), omega arith, ltb-false 65536 (length region) (p .1))
+      record {
+        key = of-length 64 k (t .0);
+        challenge = of-length 32 challenge (t .1);
+        reply = of-length 32 given (s .1);
+        some = omega arith;
+        most = ltb-false 65536 (length region) (p .1);
+      }
 
 -- ---- verdicts
 
@@ -77,29 +85,29 @@ told-refused false true r e = absurd (let z : _≡_ {A = ℕ} 0 1 = cc in omega 
 told-refused false false r e = absurd (let z : _≡_ {A = ℕ} 0 1 = cc in omega arith)
 
 module _ {k challenge given region : List ℕ} where
-  pub said-yes : ChecksReply k challenge given region Yes → Fit k challenge given region × (given ≡ reply k challenge region)
+  pub said-yes : ChecksReply k challenge given region Yes → Lengths k challenge given region × (given ≡ reply k challenge region)
   said-yes p =
       let q = told-yes (checkUnfit k challenge given region) (same given (reply k challenge region)) (p .answered) in
-      (fits-check k challenge given region (q .0), same-equal given (reply k challenge region) (q .1))
+      (fit-lengths k challenge given region (q .0), same-equal given (reply k challenge region) (q .1))
 
   pub says-yes : (v : Verdict) → ChecksReply k challenge given region v
-      → Fit k challenge given region → given ≡ reply k challenge region → v ≡ Yes
+      → Lengths k challenge given region → given ≡ reply k challenge region → v ≡ Yes
   says-yes v p f e =
       verdict-settled v Yes
-      (p .answered ∙ simp (check-fits k challenge given region f, equal-same given (reply k challenge region) e))
+      (p .answered ∙ simp (lengths-fit k challenge given region f, equal-same given (reply k challenge region) e))
 
-  pub said-no : ChecksReply k challenge given region No → Fit k challenge given region × (given ≢ reply k challenge region)
+  pub said-no : ChecksReply k challenge given region No → Lengths k challenge given region × (given ≢ reply k challenge region)
   said-no p =
       let q = told-no (checkUnfit k challenge given region) (same given (reply k challenge region)) (p .answered) in (
-        fits-check k challenge given region (q .0),
+        fit-lengths k challenge given region (q .0),
         λ e. clash (same given (reply k challenge region)) (equal-same given (reply k challenge region) e) (q .1),
       )
 
   pub says-no : (v : Verdict) → ChecksReply k challenge given region v
-      → Fit k challenge given region → given ≢ reply k challenge region → v ≡ No
+      → Lengths k challenge given region → given ≢ reply k challenge region → v ≡ No
   says-no v p f n =
       let s = untrue (same given (reply k challenge region)) (λ e. n (same-equal given (reply k challenge region) e)) in
-      verdict-settled v No (p .answered ∙ simp (check-fits k challenge given region f, s))
+      verdict-settled v No (p .answered ∙ simp (lengths-fit k challenge given region f, s))
 
   pub said-refused : (r : Refusal) → ChecksReply k challenge given region (Refused r) → checkUnfit k challenge given region ≡ true
   said-refused r p = told-refused (checkUnfit k challenge given region) (same given (reply k challenge region)) r (p .answered)

@@ -1,2 +1,3 @@
+pub mod Lengths
 pub mod Promises
 pub mod Settled

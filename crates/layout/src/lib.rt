@@ -35,7 +35,7 @@ const BYTES: usize = 24;
 const REGIONS: usize = 6;
 
 // The bytes of a board's memory.
-const MEMORY: usize = 65_536;
+pub const MEMORY: usize = 65_536;
 
 const KR: usize = 1;
 

@@ -1,12 +1,15 @@
 -- The two calls on plain variables: what their checks have passed, and what follows from a run or a refusal. Assumes nothing.
 use mathlib.Core.Path.{_≡_, subst}
 use mathlib.Core.List.{List, _++_}
-use Prim.Native.Nat.{ℕ, _*_, _≤_}
+use Prim.Native.Nat.{ℕ, _*_, _≤_, _<_}
 use lib.ListN.{length, drop}
-use Rattle.refusal.specs.Answers.{row}
+use borrow.Author.Tests.{eq-eqb, ne-eqb, lt-ltb, le-ltb}
+use Rattle.refusal.specs.Answers.{row, refusedAt}
+use Rattle.refusal.specs.Numbers.{memorySize, roomSize}
 use Rattle.refusal.specs.Settled.{row-settled}
 use Rattle.refusal.specs.declared.Refusal.{Refusal}
 use Rattle.refusal.specs.declared.Answer.{Answer}
+use Rattle.refusal.specs.declared.Answer.the-variants.{Done, Refused}
 use Rattle.layout.specs.declared.Layout.{Layout}
 use Rattle.layout.specs.declared.Checked.{Checked}
 use Rattle.layout.specs.declared.Checked.the-variants as checked
@@ -19,7 +22,7 @@ use Rattle.monitor.specs.declared.Stepped.the-variants as stepped
 use Rattle.monitor.specs.declared.Traced.the-variants as traced
 use Rattle.monitor.specs.Effects.{bytes, written, answer}
 use Rattle.monitor.specs.Runs.{count, steps, memoryAfter, roomAfter, totals}
-use Rattle.monitor.specs.Promises.{traceCheck, stepCheck, Traces, Steps}
+use Rattle.monitor.specs.Promises.{traceCheck, stepCheck, runCheck, Traces, Steps, Runs}
 use Rattle.monitor.proofs.Checks.{trace-passed, step-passed}
 
 -- `admit` was given what the check of the other lengths and the steps says
@@ -75,3 +78,30 @@ pub step-refused : (memory layout b : List ℕ) (m : Monitor) (room : List ℕ) 
 step-refused memory layout b m room r e =
     let g = admitted-refused memory layout (stepCheck b (length room)) r e in
     record { answered = simp g; memory-left = simp g; room-left = simp g }
+
+-- ---- the run alone
+
+-- one that has the memory and the room that it needs is not refused
+pub run-passes : (b memory : List ℕ) (room : ℕ) → length memory ≡ 65536 → 4 * count b ≤ room → runCheck memory b room ≡ Done
+unfolding runCheck
+run-passes b memory room h g = simp (eq-eqb (length memory) 65536 h, le-ltb room (4 * count b) g)
+
+pub run-of : (l : Layout) (b memory room memory′ room′ : List ℕ) (r : Totals) → length memory ≡ 65536 → 4 * count b ≤ length room
+    → (r ≡ totals l b memory) × (memory′ ≡ memoryAfter l b memory) × (room′ ≡ roomAfter l b memory room)
+    → Runs l b memory room memory′ room′ (traced.Judged r)
+run-of l b memory room memory′ room′ r h g d =
+    let e = run-passes b memory (length room) h g in
+    record { answered = simp (e, d .0); memory-left = simp e (d .1); room-left = simp e (d .2) }
+
+pub run-refused : (l : Layout) (b memory room : List ℕ) (r : Refusal) → runCheck memory b (length room) ≡ Refused r
+    → Runs l b memory room memory room (traced.Refused r)
+run-refused l b memory room r e = record { answered = simp e; memory-left = simp e; room-left = simp e }
+
+pub run-without-memory : (b memory : List ℕ) (room : ℕ) → (length memory ≡ 65536 → ⊥) → runCheck memory b room ≡ refusedAt memorySize 0
+unfolding runCheck
+run-without-memory b memory room h = simp (ne-eqb (length memory) 65536 h)
+
+pub run-without-room : (b memory : List ℕ) (room : ℕ) → length memory ≡ 65536 → room < 4 * count b
+    → runCheck memory b room ≡ refusedAt roomSize 0
+unfolding runCheck
+run-without-room b memory room h g = simp (eq-eqb (length memory) 65536 h, lt-ltb room (4 * count b) g)

@@ -1,4 +1,4 @@
--- What the calls for one step and for a trace promise, for all inputs. Assumes nothing.
+-- What the calls for one step and for a trace promise, and what they offer to the crates above, for all inputs. Assumes nothing.
 use mathlib.Core.Path.{_≡_}
 use mathlib.Core.Bool.{Bool, not, _||_}
 use mathlib.Core.List.{List, [], _∷_, _++_}
@@ -9,11 +9,12 @@ use Rattle.refusal.specs.Choice.{pick}
 use Rattle.refusal.specs.First.{first}
 use Rattle.refusal.specs.Answers as A
 use Rattle.refusal.specs.Answers.{refusedAt, told, lent}
-use Rattle.refusal.specs.Numbers.{traceSize, roomSize, stepNotZero}
+use Rattle.refusal.specs.Numbers.{memorySize, traceSize, roomSize, stepNotZero}
 use Rattle.refusal.specs.declared.Answer.{Answer}
 use Rattle.refusal.specs.declared.Answer.the-variants as call
+use Rattle.layout.specs.declared.Layout.{Layout}
 use Rattle.layout.specs.Layouts.{layoutOf}
-use Rattle.layout.specs.Calls.{callCheck}
+use Rattle.layout.specs.Calls.{memoryBytes, callCheck}
 use Rattle.rules.specs.declared.Monitor.{Monitor}
 use Rattle.rules.specs.Steps.{clean}
 use Rattle.rules.specs.Rules.{next}
@@ -50,6 +51,12 @@ stepCheck b room =
     pick (not (eqb (length b) stepSize)) (refusedAt traceSize 0)
     (pick (ltb room answerSize) (refusedAt roomSize 0)
     (pick (unclean b 0) (refusedAt stepNotZero 0) call.Done))
+
+-- refusals 1 and 8 of a run with a layout that has been read
+unfoldable pub runCheck : List ℕ → List ℕ → ℕ → Answer
+runCheck memory b room =
+    pick (not (eqb (length memory) memoryBytes)) (refusedAt memorySize 0)
+    (pick (ltb room (answerSize * count b)) (refusedAt roomSize 0) call.Done)
 
 -- ---- answers
 
@@ -102,3 +109,9 @@ pub record Steps (memory layout step : List ℕ) (m : Monitor) (room memory′ r
 -- `fits`, the check of a trace and of so much answer room
 pub record Fits (trace : List ℕ) (room : ℕ) (r : Answer) : Type 0 where
   pub answered : A.row r ≡ A.row (traceCheck trace room)
+
+-- `run_with`, the run alone: whatever the steps' zero bits and bytes are, and however many there are
+pub record Runs (l : Layout) (trace memory room memory′ room′ : List ℕ) (r : Traced) : Type 0 where
+  pub answered : tracedRow r ≡ told (runCheck memory trace (length room)) (values (totals l trace memory))
+  pub memory-left : memory′ ≡ lent (runCheck memory trace (length room)) (memoryAfter l trace memory) memory
+  pub room-left : room′ ≡ lent (runCheck memory trace (length room)) (roomAfter l trace memory room) room

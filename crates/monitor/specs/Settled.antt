@@ -8,12 +8,13 @@ use Rattle.refusal.specs.Choice.{pick}
 use Rattle.refusal.specs.Settled.{row-settled}
 use Rattle.refusal.specs.declared.Answer.{Answer}
 use Rattle.refusal.specs.declared.Answer.the-variants as call
+use Rattle.layout.specs.declared.Layout.{Layout}
 use Rattle.rules.specs.declared.Monitor.{Monitor}
 use Rattle.monitor.specs.declared.Stepped.{Stepped}
 use Rattle.monitor.specs.declared.Stepped.the-variants as stepped
 use Rattle.monitor.specs.declared.Traced.{Traced}
 use Rattle.monitor.specs.declared.Traced.the-variants as traced
-use Rattle.monitor.specs.Promises.{remembered, tracedRow, steppedRow, Traces, Steps, Fits}
+use Rattle.monitor.specs.Promises.{remembered, tracedRow, steppedRow, Traces, Steps, Fits, Runs}
 
 -- ---- an answer's row settles the answer
 
@@ -68,3 +69,12 @@ steps-settled memory layout step m room memory₁ room₁ memory₂ room₂ r q 
 
 pub fits-settled : (trace : List ℕ) (room : ℕ) (r q : Answer) → Fits trace room r → Fits trace room q → r ≡ q
 fits-settled trace room r q p p′ = row-settled r q (p .answered ∙ sym (p′ .answered))
+
+pub runs-settled : (l : Layout) (trace memory room memory₁ room₁ memory₂ room₂ : List ℕ) (r q : Traced)
+    → Runs l trace memory room memory₁ room₁ r → Runs l trace memory room memory₂ room₂ q
+    → (r ≡ q) × (memory₁ ≡ memory₂) × (room₁ ≡ room₂)
+runs-settled l trace memory room memory₁ room₁ memory₂ room₂ r q p p′ = (
+  traced-row-settled r q (p .answered ∙ sym (p′ .answered)),
+  p .memory-left ∙ sym (p′ .memory-left),
+  p .room-left ∙ sym (p′ .room-left),
+)

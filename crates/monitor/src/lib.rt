@@ -215,6 +215,26 @@ fn run(l: Layout, trace: &[u8], memory: &mut [u8], room: &mut [u8]) -> Totals
     Totals { steps, resets }
 }
 
+// The run alone, for a call that has checked the layout and the steps by itself. A refused call changes nothing.
+pub fn run_with(l: Layout, trace: &[u8], memory: &mut [u8], room: &mut [u8]) -> Traced
+    ensures { λ r. ⌜ P.Runs l (now (trace .entry)) (now (memory .entry)) (now (room .entry))
+        (now (memory .exit)) (now (room .exit)) r ⌝ }
+{
+    if memory.len() != layout::MEMORY {
+        return Traced::Refused(Refusal {
+            number: refusal::MEMORY_SIZE,
+            place: 0,
+        });
+    }
+    if room.len() < ANSWER * (trace.len() / STEP) {
+        return Traced::Refused(Refusal {
+            number: refusal::ROOM_SIZE,
+            place: 0,
+        });
+    }
+    Traced::Judged(run(l, trace, memory, room))
+}
+
 // Refusals 7 to 9 of a trace and of so many bytes of answer room.
 pub fn fits(trace: &[u8], room: usize) -> Answer
     ensures { λ r. ⌜ P.Fits (now (trace .entry)) room r ⌝ }

@@ -1,0 +1,79 @@
+-- The contents of a run file: three entries, for layout, memory and trace, and the bodies that they name. Assumes nothing.
+use mathlib.Core.Bool.{Bool, not, _&&_, _||_}
+use mathlib.Core.List.{List}
+use Prim.Native.Nat.{ℕ, zero, suc, _+_, _*_}
+use lib.Dec.{eqb, ltb}
+use lib.ListN.{length, getD, take, drop}
+use Rattle.refusal.specs.Choice.{pick}
+use Rattle.refusal.specs.First.{first}
+use Rattle.refusal.specs.Answers.{refusedAt}
+use Rattle.refusal.specs.Numbers.{contents, fileSize}
+use Rattle.refusal.specs.declared.Answer.{Answer}
+use Rattle.refusal.specs.declared.Answer.the-variants.{Done}
+
+-- the most bytes of a run file
+abbrev pub mostBytes : ℕ
+mostBytes = 49152
+
+-- the bytes of the contents, and the number of their entries
+abbrev pub contentsSize : ℕ
+contentsSize = 24
+
+abbrev pub entries : ℕ
+entries = 3
+
+-- the entries' numbers
+abbrev pub LAYOUT : ℕ
+LAYOUT = 0
+
+abbrev pub MEMORY : ℕ
+MEMORY = 1
+
+abbrev pub TRACE : ℕ
+TRACE = 2
+
+-- the layout's length
+abbrev pub layoutBytes : ℕ
+layoutBytes = 24
+
+-- a 32-bit number at a place, little-endian
+abbrev pub long : List ℕ → ℕ → ℕ
+long f p = getD f p 0 + 256 * getD f (p + 1) 0 + 65536 * getD f (p + 2) 0 + 16777216 * getD f (p + 3) 0
+
+-- the offset and the length that entry k names
+abbrev pub offset : List ℕ → ℕ → ℕ
+offset f k = long f (8 * k)
+
+abbrev pub size : List ℕ → ℕ → ℕ
+size f k = long f (8 * k + 4)
+
+-- bodies follow in that order from byte 24 without gaps
+unfoldable pub begins : List ℕ → ℕ → ℕ
+begins f zero = contentsSize
+begins f (suc k) = begins f k + size f k
+
+-- an entry fails if its offset is another, its body runs past the file's end, entry 0's length is another, or entry 2 ends
+-- before the file does; `begin` is where its body has to begin
+abbrev pub failsFrom : List ℕ → ℕ → ℕ → Bool
+failsFrom f k begin =
+    not (eqb (offset f k) begin)
+    || ltb (length f) (begin + size f k)
+    || eqb k LAYOUT && not (eqb (size f k) layoutBytes)
+    || eqb k TRACE && ltb (begin + size f k) (length f)
+
+unfoldable pub entryFails : List ℕ → ℕ → Bool
+entryFails f k = failsFrom f k (begins f k)
+
+-- the first entry that fails, 3 if none does; a file under 24 bytes fails at entry 0
+unfoldable pub firstFailing : List ℕ → ℕ
+firstFailing f = pick (ltb (length f) contentsSize) 0 (first entries (entryFails f))
+
+-- refusals 15 and 13
+unfoldable pub fileCheck : List ℕ → Answer
+fileCheck f =
+    pick (ltb mostBytes (length f)) (refusedAt fileSize 0)
+    (pick (ltb (firstFailing f) entries) (refusedAt contents (firstFailing f)) Done)
+
+-- the body of entry k
+unfoldable pub body : List ℕ → ℕ → List ℕ
+body f k = take (size f k) (drop (begins f k) f)

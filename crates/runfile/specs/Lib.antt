@@ -1,0 +1,4 @@
+pub mod Contents
+pub mod Segments
+pub mod Promises
+pub mod Settled

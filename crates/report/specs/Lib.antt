@@ -1,0 +1,4 @@
+pub mod Text
+pub mod Writing
+pub mod Promises
+pub mod Settled

@@ -7,3 +7,4 @@ pub mod Witness
 pub mod History
 pub mod Visit
 pub mod Script
+pub mod Demand1

@@ -24,10 +24,10 @@ length-zeros : length zeros ≡ 65462
 unfolding zeros
 length-zeros = length-replicate {A = ℕ} 65462 0
 
-length-board : (a b key mailbox : ℕ) → length (board a b key mailbox) ≡ 65536
+pub length-board : (a b key mailbox : ℕ) → length (board a b key mailbox) ≡ 65536
 length-board a b key mailbox = omega (arith, length-zeros)
 
-layout-good : layoutCheck layout ≡ Done
+pub layout-good : layoutCheck layout ≡ Done
 unfolding layoutCheck first
 layout-good = refl
 

@@ -85,7 +85,7 @@ pub record Row : Type 0 where
   pub step : Step
   pub cause : ℕ
 
-abbrev row : Last → Step → ℕ → Row
+abbrev pub row : Last → Step → ℕ → Row
 row b s n = record { before = b; step = s; cause = n }
 
 abbrev pub marked : List Row

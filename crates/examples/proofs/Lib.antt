@@ -1,0 +1,3 @@
+pub mod Causes
+pub mod Refusals
+pub mod PageCase

@@ -1,0 +1,3 @@
+pub mod Refusals
+pub mod Causes
+pub mod PageCase

@@ -1,9 +1,8 @@
 -- `runfile::first_failing` meets its contract. Assumes nothing.
-use Prim.Native.Nat.{_-_, _≤_}
+use Prim.Native.Nat.{_-_}
 use mathlib.Core.Path.{sym, _∙_}
 use native.Mathlib.Omega.{arith}
-use lib.ListN.{length}
-use Rattle.runfile.specs.Contents.{contentsSize, entries}
+use Rattle.runfile.specs.Contents.{entries}
 use Rattle.runfile.proofs.Entries.{Searched, none, more, short, found, all}
 use Rattle.runfile.proofs.first_failing.Statement.{statement}
 use Rattle.runfile.proofs.first_failing.Tie as tie

@@ -3,7 +3,7 @@
 use mathlib.Core.Path.{_≡_, refl, sym, ap, _∙_}
 use mathlib.Core.Bool.{Bool, true, false, not, _&&_, _||_}
 use mathlib.Core.List.{List}
-use Prim.Native.Nat.{ℕ, zero, suc, _+_, _-_, _≤_, _<_}
+use Prim.Native.Nat.{ℕ, _+_, _-_, _≤_, _<_}
 use native.Mathlib.Numerals.{add-one}
 use native.Mathlib.Omega.{arith}
 use lib.Dec.{eqb, ltb}
@@ -120,7 +120,7 @@ sound f e =
       whole = omega (arith, t .within);
     }
 
--- its bodies, as the code takes them; the memory's body ends at e
+-- its bodies, as the code takes them; entry 1 names n bytes
 module _ (f : List ℕ) (s : Sound f) (n : ℕ) (is : n ≡ size f MEMORY) where
   pub layout-part : take (48 - contentsSize) (drop contentsSize f) ≡ body f LAYOUT
   unfolding body begins

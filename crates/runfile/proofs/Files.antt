@@ -16,10 +16,14 @@ use Rattle.monitor.specs.Promises.{values, tracedRow}
 use Rattle.runfile.specs.Contents.{LAYOUT, MEMORY, TRACE, fileCheck, body}
 use Rattle.runfile.specs.Segments.{described}
 use Rattle.runfile.specs.Promises.{bodiesCheck, judgeCheck, Judges}
+use Rattle.runfile.proofs.Entries.{Sound, sound}
 
 -- what the check of the contents has answered
 pub checked : (f : List ℕ) (a b : Answer) → row a ≡ row (fileCheck f) → a ≡ b → fileCheck f ≡ b
 checked f a b e d = sym (row-settled a (fileCheck f) e) ∙ d
+
+pub passed : (f : List ℕ) (a : Answer) → row a ≡ row (fileCheck f) → a ≡ Done → Sound f
+passed f a e d = sound f (checked f a Done e d)
 
 -- a file whose contents pass earns what its bodies earn
 pub bodies-judged : (f memory room : List ℕ) → fileCheck f ≡ Done

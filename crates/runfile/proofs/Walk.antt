@@ -106,30 +106,31 @@ module _ (b : List ℕ) (k p end : ℕ) (d : Checked b k p end) where
 
 -- ---- the filling
 
--- the segments before p are laid into the memory
+-- the segments before p are laid into the memory, and none of the body's fails
 pub record Laid (b : List ℕ) (p : ℕ) (memory : List ℕ) : Type 0 where
+  pub sound : firstWrong b ≡ segments b
   pub number : ℕ
   pub walked : Walked b number p
   pub stands : memory ≡ image b number
 
-pub laid-none : (b memory : List ℕ) → memory ≡ replicate memoryBytes 0 → Laid b 0 memory
+pub laid-none : (b memory : List ℕ) → firstWrong b ≡ segments b → memory ≡ replicate memoryBytes 0 → Laid b 0 memory
 unfolding image
-laid-none b memory e = record { number = 0; walked = none b; stands = e }
+laid-none b memory g e = record { sound = g; number = 0; walked = none b; stands = e }
 
-module _ (b : List ℕ) (p : ℕ) (memory : List ℕ) (d : Laid b p memory) where
-  -- no segment fails, so this one does not
-  pub laid-right : firstWrong b ≡ segments b → p < length b → Right b p (reached b (d .number))
+module _ {b : List ℕ} {p : ℕ} {memory : List ℕ} (d : Laid b p memory) where
+  pub laid-right : p < length b → Right b p (reached b (d .number))
   unfolding firstWrong segmentFails
-  laid-right g h =
+  laid-right h =
+      let l = subst (λ (n : ℕ). d .number < n) (sym (d .sound)) (inside b (d .number) p (d .walked) h) in
       right b p (reached b (d .number))
-      (ap (λ (q : ℕ). failsAt b q (reached b (d .number))) (d .walked .at)
-      ∙ first-least (segments b) (segmentFails b) (d .number) (subst (λ (n : ℕ). d .number < n) (sym g) (inside b (d .number) p (d .walked) h)))
+      (ap (λ (q : ℕ). failsAt b q (reached b (d .number))) (d .walked .at) ∙ first-least (segments b) (segmentFails b) (d .number) l)
 
   pub laid-more : (memory′ : List ℕ) (size start : ℕ) → p < length b → size ≡ sizeAt b p → start ≡ startAt b p
       → memory′ ≡ paste memory start (drop (p + headSize) b) size → Laid b (p + headSize + size) memory′
   unfolding image
   laid-more memory′ size start h ez es em =
       record {
+        sound = d .sound;
         number = d .number + 1;
         walked = more b (d .number) p size (d .walked) h ez;
         stands = rw add-one (cc (em, d .stands, d .walked .at, ez, es));

@@ -41,7 +41,7 @@ module _ (body trace : List ℕ) (room : ℕ) (a : Answer) (e : row a ≡ row (s
 -- ---- the call
 
 -- what it promises: memory′ and room′ stand there afterwards
-abbrev Judges : (layout body trace memory room memory′ room′ : List ℕ) (r : Traced) → Type 0
+abbrev pub Judges : (layout body trace memory room memory′ room′ : List ℕ) (r : Traced) → Type 0
 Judges layout body trace memory room memory′ room′ r =
     (tracedRow r ≡ told (bodiesCheck layout body trace memory room) (values (totals (layoutOf layout) trace (described body))))
     × (memory′ ≡ lent (bodiesCheck layout body trace memory room) (memoryAfter (layoutOf layout) trace (described body)) memory)

@@ -3,20 +3,17 @@
 use mathlib.Core.Path.{_≡_, sym, _∙_}
 use mathlib.Core.List.{List}
 use Prim.Native.Nat.{ℕ}
-use Rattle.refusal.specs.Answers.{row, told, lent}
+use Rattle.refusal.specs.Answers.{row}
 use Rattle.refusal.specs.Settled.{row-settled}
 use Rattle.refusal.specs.declared.Refusal.{Refusal}
 use Rattle.refusal.specs.declared.Answer.{Answer}
 use Rattle.refusal.specs.declared.Answer.the-variants.{Done, Refused}
-use Rattle.layout.specs.Layouts.{layoutOf}
 use Rattle.monitor.specs.declared.Traced.{Traced}
 use Rattle.monitor.specs.declared.Traced.the-variants as traced
-use Rattle.monitor.specs.Runs.{totals, memoryAfter, roomAfter}
-use Rattle.monitor.specs.Promises.{values, tracedRow}
 use Rattle.runfile.specs.Contents.{LAYOUT, MEMORY, TRACE, fileCheck, body}
-use Rattle.runfile.specs.Segments.{described}
 use Rattle.runfile.specs.Promises.{bodiesCheck, judgeCheck, Judges}
 use Rattle.runfile.proofs.Entries.{Sound, sound}
+use Rattle.runfile.proofs.Bodies.{Judges as BodiesJudged}
 
 -- what the check of the contents has answered
 pub checked : (f : List ℕ) (a b : Answer) → row a ≡ row (fileCheck f) → a ≡ b → fileCheck f ≡ b
@@ -37,16 +34,12 @@ contents-refused f memory room x e = simp e
 
 pub judged : (f layout segments trace memory room memory′ room′ : List ℕ) (r : Traced) → fileCheck f ≡ Done
     → layout ≡ body f LAYOUT → segments ≡ body f MEMORY → trace ≡ body f TRACE
-    → (tracedRow r
-    ≡ told (bodiesCheck layout segments trace memory room) (values (totals (layoutOf layout) trace (described segments))))
-    × (memory′
-    ≡ lent (bodiesCheck layout segments trace memory room) (memoryAfter (layoutOf layout) trace (described segments)) memory)
-    × (room′
-    ≡ lent (bodiesCheck layout segments trace memory room) (roomAfter (layoutOf layout) trace (described segments) room) room)
+    → BodiesJudged layout segments trace memory room memory′ room′ r
     → Judges f memory room memory′ room′ r
 judged f layout segments trace memory room memory′ room′ r e el es et d =
     let c = bodies-judged f memory room e in
-    record { answered = simp c (rw (el, es, et) at (d .0)); memory-left = simp c (rw (el, es, et) at (d .1)); room-left = simp c (rw (el, es, et) at (d .2)) }
+    let b = rw (el, es, et) at d in
+    record { answered = simp c (b .0); memory-left = simp c (b .1); room-left = simp c (b .2) }
 
 pub refused : (f memory room : List ℕ) (x : Refusal) → fileCheck f ≡ Refused x → Judges f memory room memory room (traced.Refused x)
 refused f memory room x e =

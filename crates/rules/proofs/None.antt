@@ -8,7 +8,7 @@ use Rattle.layout.specs.Regions.{within, outside}
 use Rattle.rules.specs.declared.Step.{Step}
 use Rattle.rules.specs.declared.Monitor.{Monitor}
 use Rattle.rules.specs.declared.Broken.{Broken}
-use Rattle.rules.specs.Rules.{cpuWrites, dmaWrites, rule1, rule2, rule3, rule4, rule5, rule6, rule7, rule8, rule9, lowest}
+use Rattle.rules.specs.Rules.{cpuWrites, dmaWrites, rule1, rule2, rule3, rule4, rule5, rule6, rule7, rule8, rule9, broken, lowest}
 
 pub none-lowest : (b : Broken)
     → (b .r1 || b .r2 || b .r3 || b .r4 || b .r5 || b .r6 || b .r7 || b .r8 || b .r9 || b .r10) ≡ false → lowest b ≡ 0
@@ -44,3 +44,21 @@ cpu-none l m s e =
 pub dma-none : (l : Layout) (m : Monitor) (s : Step) → s .active ≡ false
     → (false ≡ rule7 l s) × (false ≡ rule8 l s) × (false ≡ (not (m .held) && rule9 l s)) × (false ≡ dmaWrites (l .ctr) s)
 dma-none l m s e = (simp e, simp e, simp (e, and-false), simp (e, and-false))
+
+-- with PC and last PC outside CR, and the accesses outside KR, XS and CTR, no rule at all
+pub apart-lowest : (l : Layout) (m : Monitor) (s : Step)
+    → (within (l .cr) (s .pc) || within (l .cr) (m .last)
+    || (within (l .kr) (s .cpu) || within (l .xs) (s .cpu) || within (l .ctr) (s .cpu))
+    || (within (l .kr) (s .dma) || within (l .xs) (s .dma) || within (l .ctr) (s .dma)))
+    ≡ false
+    → lowest (broken l m s) ≡ 0
+unfolding first
+apart-lowest l m s e =
+    let d = neither (within (l .cr) (s .pc) || within (l .cr) (m .last) || (within (l .kr) (s .cpu) || within (l .xs) (s .cpu) || within (l .ctr) (s .cpu))) _ e in
+    let c = neither (within (l .cr) (s .pc) || within (l .cr) (m .last)) _ (d .0) in
+    let p = neither (within (l .cr) (s .pc)) (within (l .cr) (m .last)) (c .0) in
+    let c₂ = neither (within (l .kr) (s .cpu) || within (l .xs) (s .cpu)) (within (l .ctr) (s .cpu)) (c .1) in
+    let c₁ = neither (within (l .kr) (s .cpu)) (within (l .xs) (s .cpu)) (c₂ .0) in
+    let d₂ = neither (within (l .kr) (s .dma) || within (l .xs) (s .dma)) (within (l .ctr) (s .dma)) (d .1) in
+    let d₁ = neither (within (l .kr) (s .dma)) (within (l .xs) (s .dma)) (d₂ .0) in
+    simp (p .0, p .1, c₁ .0, c₁ .1, c₂ .1, d₁ .0, d₁ .1, d₂ .1, and-false)

@@ -1,8 +1,8 @@
 // One step of a trace, what the monitor remembers, and the rules by which a step resets.
 use layout::Layout;
 ghost use mathlib.Core.Path.{_≡_};
-ghost use mathlib.Core.Bool.{not, _&&_};
-ghost use Rattle.layout.specs.Regions.{outside};
+ghost use mathlib.Core.Bool.{not, _&&_, _||_};
+ghost use Rattle.layout.specs.Regions.{within, outside};
 ghost use Rattle.rules.specs.Steps as S;
 ghost use Rattle.rules.specs.Rules as R;
 
@@ -226,12 +226,28 @@ fn lowest(b: Broken) -> u8
     0
 }
 
+// CR is neither entered nor left, and no access is in a region that a rule guards. Most steps are so, and then none is broken.
+fn apart(l: Layout, m: Monitor, s: Step) -> bool
+    ensures { λ r. ⌜ r
+        ≡ not (within (l .cr) (s .pc) || within (l .cr) (m .last)
+        || (within (l .kr) (s .cpu) || within (l .xs) (s .cpu) || within (l .ctr) (s .cpu))
+        || (within (l .kr) (s .dma) || within (l .xs) (s .dma) || within (l .ctr) (s .dma))) ⌝ }
+{
+    let code = l.cr.holds(s.pc) | l.cr.holds(m.last);
+    let cpu = l.kr.holds(s.cpu) | l.xs.holds(s.cpu) | l.ctr.holds(s.cpu);
+    let dma = l.kr.holds(s.dma) | l.xs.holds(s.dma) | l.ctr.holds(s.dma);
+    !(code | cpu | dma)
+}
+
 // Why the step resets, and 0 if it does not.
 pub fn cause(l: Layout, m: Monitor, s: Step) -> u8
     ensures { λ r. ⌜ r ≡ R.cause l m s ⌝ }
 {
     if m.held & (s.pc != 0) {
         return HELD;
+    }
+    if apart(l, m, s) {
+        return 0;
     }
     lowest(breaks(l, m, s))
 }

@@ -1,6 +1,9 @@
 -- `rules::cause` meets its contract. Assumes nothing.
+use mathlib.Core.Path.{sym, _∙_}
 use borrow.Author.Needs.{needs}
+use borrow.Author.Tests.{not-true}
 use Rattle.rules.specs.Rules.{cause}
+use Rattle.rules.proofs.None.{apart-lowest}
 use Rattle.rules.proofs.cause.Statement.{statement}
 use Rattle.rules.proofs.cause.Tie as tie
 
@@ -8,15 +11,24 @@ returns : tie.Need-returns
 unfolding cause
 returns c = simp (c .if1 .taken)
 
+apart-requires : tie.Need-apart-requires
+apart-requires c κs = search needs
+
+returns-2 : tie.Need-returns-2
+unfolding cause
+returns-2 c =
+    let h = c .before .before .before .before .before .args in
+    simp (c .before .before .if1 .left) (sym (apart-lowest (h .l) (h .m) (h .s) (not-true _ (sym (c .before .apart .ensures) ∙ c .if2 .taken))))
+
 breaks-requires : tie.Need-breaks-requires
 breaks-requires c κs = search needs
 
 lowest-requires : tie.Need-lowest-requires
 lowest-requires c κs = search needs
 
-returns-2 : tie.Need-returns-2
+returns-3 : tie.Need-returns-3
 unfolding cause
-returns-2 c = simp (c .lowest .ensures, c .before .breaks .ensures, c .before .before .if1 .left)
+returns-3 c = simp (c .lowest .ensures, c .before .breaks .ensures, c .before .before .before .before .if1 .left)
 
 pub cause-spec : {M : Type 1} → statement M
-cause-spec = tie.close (tie.spec returns breaks-requires lowest-requires returns-2)
+cause-spec = tie.close (tie.spec returns apart-requires returns-2 breaks-requires lowest-requires returns-3)

@@ -1,0 +1,5 @@
+pub mod Lay
+pub mod Decimal
+pub mod Told
+pub mod Laws
+pub mod Calls

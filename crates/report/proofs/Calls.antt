@@ -1,9 +1,9 @@
 -- `text`, on plain variables. Assumes nothing.
 use mathlib.Core.Path.{_≡_, refl, ap, sym, subst, _∙_}
-use mathlib.Core.List.{List, _++_}
-use Prim.Native.Nat.{ℕ, _+_}
+use mathlib.Core.List.{List}
+use Prim.Native.Nat.{ℕ}
 use native.Mathlib.Omega.{arith}
-use lib.ListN.{length, take, drop}
+use lib.ListN.{length}
 use Rattle.refusal.specs.Answers.{andThen, told}
 use Rattle.refusal.specs.declared.Answer.{Answer}
 use Rattle.refusal.specs.declared.Answer.the-variants as call
@@ -14,9 +14,9 @@ use Rattle.monitor.specs.declared.Traced.the-variants as traced
 use Rattle.monitor.specs.Promises.{traceCheck, values, tracedRow}
 use Rattle.monitor.specs.Settled.{traced-row-settled}
 use Rattle.monitor.proofs.Checks.{Fitting, trace-passed}
-use Rattle.runfile.specs.Contents.{LAYOUT, MEMORY, TRACE, fileCheck, body}
+use Rattle.runfile.specs.Contents.{LAYOUT, MEMORY, fileCheck, body}
 use Rattle.runfile.specs.Segments.{segmentCheck}
-use Rattle.runfile.specs.Promises.{fileLayout, fileMemory, fileTrace, fileTotals, bodiesCheck, judgeCheck, roomLeft, Judges}
+use Rattle.runfile.specs.Promises.{fileLayout, fileMemory, fileTrace, fileTotals, bodiesCheck, judgeCheck, Judges}
 use Rattle.report.specs.Text.{fileText}
 use Rattle.report.specs.Writing.{Wrote, textOf, Tellable}
 use Rattle.report.specs.Promises.{Writes}

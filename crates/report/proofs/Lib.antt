@@ -3,3 +3,4 @@ pub mod Decimal
 pub mod Told
 pub mod Laws
 pub mod Calls
+pub mod Largest

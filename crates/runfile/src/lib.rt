@@ -191,7 +191,13 @@ fn fill(body: &[u8], memory: &mut [u8])
 }
 
 // A file whose contents passed, by its bodies: the other refusals, and then the run.
-fn judge_bodies(layout: &[u8], body: &[u8], trace: &[u8], memory: &mut [u8], room: &mut [u8]) -> Traced
+fn judge_bodies(
+    layout: &[u8],
+    body: &[u8],
+    trace: &[u8],
+    memory: &mut [u8],
+    room: &mut [u8],
+) -> Traced
     requires { ⌜ length (now body) ≤ C.mostBytes ⌝ }
     ensures { λ r. ⌜ (tracedRow r
         ≡ told (P.bodiesCheck (now (layout .entry)) (now (body .entry)) (now (trace .entry)) (now (memory .entry)) (now (room .entry)))
@@ -222,7 +228,13 @@ pub fn judge(file: &[u8], memory: &mut [u8], room: &mut [u8]) -> Traced
     match check_contents(file) {
         Answer::Done => {
             let e = SEGMENTS + long_at(file, 12);
-            judge_bodies(&file[CONTENTS..SEGMENTS], &file[SEGMENTS..e], &file[e..], memory, room)
+            judge_bodies(
+                &file[CONTENTS..SEGMENTS],
+                &file[SEGMENTS..e],
+                &file[e..],
+                memory,
+                room,
+            )
         }
         Answer::Refused(r) => Traced::Refused(r),
     }

@@ -1,0 +1,47 @@
+-- `judge` on plain variables: what follows of a file from the judging of its bodies, and from a refusal of its contents.
+-- Assumes nothing.
+use mathlib.Core.Path.{_≡_, sym, _∙_}
+use mathlib.Core.List.{List}
+use Prim.Native.Nat.{ℕ}
+use Rattle.refusal.specs.Answers.{row}
+use Rattle.refusal.specs.Settled.{row-settled}
+use Rattle.refusal.specs.declared.Refusal.{Refusal}
+use Rattle.refusal.specs.declared.Answer.{Answer}
+use Rattle.refusal.specs.declared.Answer.the-variants.{Done, Refused}
+use Rattle.monitor.specs.declared.Traced.{Traced}
+use Rattle.monitor.specs.declared.Traced.the-variants as traced
+use Rattle.runfile.specs.Contents.{LAYOUT, MEMORY, TRACE, fileCheck, body}
+use Rattle.runfile.specs.Promises.{bodiesCheck, judgeCheck, Judges}
+use Rattle.runfile.proofs.Entries.{Sound, sound}
+use Rattle.runfile.proofs.Bodies.{Judges as BodiesJudged}
+
+-- what the check of the contents has answered
+pub checked : (f : List ℕ) (a b : Answer) → row a ≡ row (fileCheck f) → a ≡ b → fileCheck f ≡ b
+checked f a b e d = sym (row-settled a (fileCheck f) e) ∙ d
+
+pub passed : (f : List ℕ) (a : Answer) → row a ≡ row (fileCheck f) → a ≡ Done → Sound f
+passed f a e d = sound f (checked f a Done e d)
+
+-- a file whose contents pass earns what its bodies earn
+pub bodies-judged : (f memory room : List ℕ) → fileCheck f ≡ Done
+    → judgeCheck f memory room ≡ bodiesCheck (body f LAYOUT) (body f MEMORY) (body f TRACE) memory room
+unfolding judgeCheck
+bodies-judged f memory room e = simp e
+
+pub contents-refused : (f memory room : List ℕ) (x : Refusal) → fileCheck f ≡ Refused x → judgeCheck f memory room ≡ Refused x
+unfolding judgeCheck
+contents-refused f memory room x e = simp e
+
+pub judged : (f layout segments trace memory room memory′ room′ : List ℕ) (r : Traced) → fileCheck f ≡ Done
+    → layout ≡ body f LAYOUT → segments ≡ body f MEMORY → trace ≡ body f TRACE
+    → BodiesJudged layout segments trace memory room memory′ room′ r
+    → Judges f memory room memory′ room′ r
+judged f layout segments trace memory room memory′ room′ r e el es et d =
+    let c = bodies-judged f memory room e in
+    let b = rw (el, es, et) at d in
+    record { answered = simp c (b .0); memory-left = simp c (b .1); room-left = simp c (b .2) }
+
+pub refused : (f memory room : List ℕ) (x : Refusal) → fileCheck f ≡ Refused x → Judges f memory room memory room (traced.Refused x)
+refused f memory room x e =
+    let c = contents-refused f memory room x e in
+    record { answered = simp c; memory-left = simp c; room-left = simp c }

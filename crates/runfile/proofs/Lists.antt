@@ -1,0 +1,53 @@
+-- A part of one list laid into another: one turn of a copy, and the bytes that then stand there. Assumes nothing.
+use mathlib.Core.Path.{_≡_, ap, sym, _∙_}
+use mathlib.Core.List.{List, _++_, append-nil}
+use Prim.Native.Nat.{ℕ, _+_, _-_, _≤_, _<_}
+use native.Mathlib.Omega.{arith}
+use native.Mathlib.Numerals.{add-one}
+use lib.ListN.{length, getD, set, take, drop, replicate, length-drop, List·getD-append}
+use lib.Seq.{paste, paste-suc, length-paste-head, getD-append-add, getD-take, getD-drop, length-take-le, drop-length}
+
+pub copied : (d₀ d s : List ℕ) (from to n i : ℕ) → i < n → from + n ≤ length s → to + n ≤ length d₀
+    → d ≡ paste d₀ to (drop from s) i → set d (to + i) (getD s (from + i) 0) ≡ paste d₀ to (drop from s) (i + 1)
+copied d₀ d s from to n i h hs hd e =
+    ap (λ (m : List ℕ). set m (to + i) (getD s (from + i) 0)) e
+    ∙ ap (λ (v : ℕ). set (paste d₀ to (drop from s) i) (to + i) v) (sym (getD-drop from s i 0))
+    ∙ paste-suc d₀ to (drop from s) i 0 (omega arith) (simp length-drop (omega arith))
+    ∙ ap (paste d₀ to (drop from s)) (sym (add-one i))
+
+-- all of a list is filled
+pub filled : (d₀ d : List ℕ) (v i : ℕ) → i ≡ length d₀ → d ≡ replicate i v ++ drop i d₀ → d ≡ replicate (length d₀) v
+filled d₀ d v i h e =
+    e
+    ∙ ap (λ (k : ℕ). replicate k v ++ drop k d₀) h
+    ∙ ap (λ (t : List ℕ). replicate (length d₀) v ++ t) (drop-length d₀)
+    ∙ append-nil (replicate (length d₀) v)
+
+-- a byte of the list d, into which n bytes of s were laid from `at` on
+module _ (d s : List ℕ) (at n : ℕ) (hd : at ≤ length d) (hs : n ≤ length s) where
+  pub paste-in : (i : ℕ) → i < n → getD (paste d at s n) (at + i) 0 ≡ getD s i 0
+  paste-in i h =
+      let e : length (take at d) ≡ at = length-take-le at d hd in
+      let f : length (take at d ++ take n s) ≡ at + n = length-paste-head d at s n hd hs in
+      List·getD-append (take at d ++ take n s) (drop (at + n) d) 0 (at + i) (omega arith)
+      ∙ ap (λ (k : ℕ). getD (take at d ++ take n s) (k + i) 0) (sym e)
+      ∙ getD-append-add (take at d) (take n s) i 0
+      ∙ getD-take n s i 0 h
+
+  pub paste-below : (a : ℕ) → a < at → getD (paste d at s n) a 0 ≡ getD d a 0
+  paste-below a h =
+      let e : length (take at d) ≡ at = length-take-le at d hd in
+      let f : length (take at d ++ take n s) ≡ at + n = length-paste-head d at s n hd hs in
+      List·getD-append (take at d ++ take n s) (drop (at + n) d) 0 a (omega arith)
+      ∙ List·getD-append (take at d) (take n s) 0 a (omega arith)
+      ∙ getD-take at d a 0 h
+
+  pub paste-above : (a : ℕ) → at + n ≤ a → getD (paste d at s n) a 0 ≡ getD d a 0
+  paste-above a h =
+      let f : length (take at d ++ take n s) ≡ at + n = length-paste-head d at s n hd hs in
+      let z : a ≡ length (take at d ++ take n s) + (a - (at + n)) = omega arith in
+      let y : at + n + (a - (at + n)) ≡ a = omega arith in
+      ap (λ (k : ℕ). getD (paste d at s n) k 0) z
+      ∙ getD-append-add (take at d ++ take n s) (drop (at + n) d) (a - (at + n)) 0
+      ∙ getD-drop (at + n) d (a - (at + n)) 0
+      ∙ ap (λ (k : ℕ). getD d k 0) y

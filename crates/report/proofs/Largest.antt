@@ -142,12 +142,12 @@ run-most l t x n h =
     let r = resetting l t x n in
     simp length-append
     (omega (
-    arith,
-    lines-most l t x n,
-    sum-most n h,
-    length-totals (record { steps = n; resets = r }),
-    places-most n 3 (omega arith),
-    places-under r,
+      arith,
+      lines-most l t x n,
+      sum-most n h,
+      length-totals (record { steps = n; resets = r }),
+      places-most n 3 (omega arith),
+      places-under r,
     ))
 
 -- of the 49,152 bytes of a file that passes, 48 are contents and layout

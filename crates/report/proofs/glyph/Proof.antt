@@ -1,6 +1,6 @@
 -- `report::glyph` meets its contract. Assumes nothing.
-use borrow.Author.Tests.{lt-ltb, le-ltb}
 use borrow.Author.Needs.{needs}
+use borrow.Author.Tests.{lt-ltb, le-ltb}
 use Rattle.report.proofs.glyph.Statement.{statement}
 use Rattle.report.proofs.glyph.Tie as tie
 

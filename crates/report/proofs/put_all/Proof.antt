@@ -1,11 +1,11 @@
 -- `report::put_all` meets its contract. Assumes nothing.
+use borrow.Author.Needs.{needs}
 use mathlib.Core.Path.{_≡_, refl, _∙_}
 use Prim.Native.Nat.{_+_, _-_, _≤_}
 use native.Mathlib.Omega.{arith}
 use lib.ListN.{length, take}
 use Rattle.report.specs.Writing.{Wrote}
 use Rattle.report.proofs.Lay.{byte-more, bytes-whole}
-use borrow.Author.Needs.{needs}
 use Rattle.report.proofs.put_all.Statement.{statement}
 use Rattle.report.proofs.put_all.Tie as tie
 

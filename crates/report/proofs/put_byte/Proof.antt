@@ -1,6 +1,6 @@
 -- `report::put_byte` meets its contract. Assumes nothing.
-use Rattle.report.proofs.Lay.{stored, dropped}
 use borrow.Author.Needs.{needs}
+use Rattle.report.proofs.Lay.{stored, dropped}
 use Rattle.report.proofs.put_byte.Statement.{statement}
 use Rattle.report.proofs.put_byte.Tie as tie
 

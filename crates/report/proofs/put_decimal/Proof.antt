@@ -1,8 +1,8 @@
 -- `report::put_decimal` meets its contract. Assumes nothing.
+use borrow.Author.Needs.{needs}
 use native.Mathlib.Omega.{arith}
 use lib.ListN.{length-take}
 use Rattle.report.proofs.Decimal.{twenty, spelled}
-use borrow.Author.Needs.{needs}
 use Rattle.report.proofs.put_decimal.Statement.{statement}
 use Rattle.report.proofs.put_decimal.Tie as tie
 

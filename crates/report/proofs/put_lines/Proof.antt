@@ -1,4 +1,5 @@
 -- `report::put_lines` meets its contract. Assumes nothing.
+use borrow.Author.Needs.{needs}
 use mathlib.Core.Path.{_≡_, refl, _∙_}
 use Prim.Native.Nat.{_+_, _-_, _*_, _≤_}
 use native.Mathlib.Omega.{arith}
@@ -6,7 +7,6 @@ use lib.ListN.{length}
 use Rattle.report.specs.Text.{lines}
 use Rattle.report.specs.Writing.{Wrote, answerAt}
 use Rattle.report.proofs.Lay.{nothing, line-more, lines-whole}
-use borrow.Author.Needs.{needs}
 use Rattle.report.proofs.put_lines.Statement.{statement}
 use Rattle.report.proofs.put_lines.Tie as tie
 

@@ -1,7 +1,7 @@
 -- `report::put_shown` meets its contract. Assumes nothing.
+use borrow.Author.Needs.{needs}
 use native.Mathlib.Omega.{arith}
 use Rattle.report.proofs.Lay.{then}
-use borrow.Author.Needs.{needs}
 use Rattle.report.proofs.put_shown.Statement.{statement}
 use Rattle.report.proofs.put_shown.Tie as tie
 

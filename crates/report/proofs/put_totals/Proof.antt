@@ -1,7 +1,7 @@
 -- `report::put_totals` meets its contract. Assumes nothing.
+use borrow.Author.Needs.{needs}
 use Rattle.report.specs.Text.{totalsLine}
 use Rattle.report.proofs.Lay.{then}
-use borrow.Author.Needs.{needs}
 use Rattle.report.proofs.put_totals.Statement.{statement}
 use Rattle.report.proofs.put_totals.Tie as tie
 
@@ -32,11 +32,17 @@ same-length c = search needs
 returns : tie.Need-returns
 unfolding totalsLine
 returns c =
-    let p = c .before .before .before .before .before .before .before .before .before .before .before .before .before .before .before .before .before .before .before .put-all .ensures in
-    let q = c .before .before .before .before .before .before .before .before .before .before .before .before .before .before .before .put-decimal .ensures .0 in
-    let r = c .before .before .before .before .before .before .before .before .before .before .put-all2 .ensures in
-    let s = c .before .before .before .before .before .before .put-decimal2 .ensures .0 in
-    then (then (then (then p q) r) s) (c .before .before .put-byte .ensures)
+    let c₁ = c .before .before in
+    let t = c₁ .put-byte .ensures in
+    let c₂ = c₁ .before .before .before .before in
+    let s = c₂ .put-decimal2 .ensures .0 in
+    let c₃ = c₂ .before .before .before .before in
+    let r = c₃ .put-all2 .ensures in
+    let c₄ = c₃ .before .before .before .before .before in
+    let q = c₄ .put-decimal .ensures .0 in
+    let c₅ = c₄ .before .before .before .before in
+    let p = c₅ .put-all .ensures in
+    then (then (then (then p q) r) s) t
 
 pub put-totals-spec : {M : Type 1} → statement M
 put-totals-spec =

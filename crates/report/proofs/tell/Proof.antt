@@ -1,8 +1,8 @@
 -- `report::tell` meets its contract. Assumes nothing.
+use borrow.Author.Needs.{needs}
 use native.Mathlib.Omega.{arith}
 use lib.ListN.{length}
 use Rattle.report.proofs.Told.{room-for, judged-told, refused-told}
-use borrow.Author.Needs.{needs}
 use Rattle.report.proofs.tell.Statement.{statement}
 use Rattle.report.proofs.tell.Tie as tie
 

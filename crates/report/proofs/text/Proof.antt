@@ -1,6 +1,6 @@
 -- `report::text` meets its contract. Assumes nothing.
-use Rattle.report.proofs.Calls.{tellable, whole}
 use borrow.Author.Needs.{needs}
+use Rattle.report.proofs.Calls.{tellable, whole}
 use Rattle.report.proofs.text.Statement.{statement}
 use Rattle.report.proofs.text.Tie as tie
 

@@ -1,0 +1,77 @@
+-- Texts laid into a buffer one behind the other. Assumes nothing.
+use mathlib.Core.Path.{_≡_, refl, ap, sym, subst, _∙_}
+use mathlib.Core.List.{List, [], _∷_, _++_}
+use Prim.Native.Nat.{ℕ, suc, _+_, _≤_, _<_}
+use native.Mathlib.Nat.{add-zero}
+use native.Mathlib.Numerals.{add-one}
+use native.Mathlib.Omega.{arith}
+use lib.ListN.{length, getD, set, take, drop, length-append}
+use lib.Seq.{sets, drop-nil, set-out, take-suc, take-length}
+use Rattle.monitor.specs.declared.StepAnswer.{StepAnswer}
+use Rattle.report.specs.Text.{line, lines}
+use Rattle.report.specs.Writing.{Wrote}
+
+sets-append : (a b l : List ℕ) (i : ℕ) → sets (sets l i a) (i + length a) b ≡ sets l i (a ++ b)
+sets-append [] b l i = rw add-zero
+sets-append (x ∷ a) b l i =
+    let e : i + suc (length a) ≡ suc i + length a = omega arith in
+    rw e (sets-append a b (set l i x) (suc i))
+
+-- one text and then another
+pub then : {a b c : List ℕ} {i j k : ℕ} {s t : List ℕ} → Wrote a b i s j → Wrote b c j t k → Wrote a c i (s ++ t) k
+then {a} {b} {c} {i} {j} {k} {s} {t} v w =
+    record {
+      next = simp length-append (omega (arith, v .next, w .next));
+      laid =
+          w .laid
+          ∙ ap (λ (n : ℕ). sets b n t) (v .next)
+          ∙ ap (λ (l : List ℕ). sets l (i + length s) t) (v .laid)
+          ∙ sets-append s t a i;
+    }
+
+pub nothing : (a : List ℕ) (i : ℕ) → Wrote a a i [] i
+nothing a i = record { next = omega arith; laid = refl }
+
+-- one byte, which is not stored past the end
+pub stored : (out : List ℕ) (at b : ℕ) → Wrote out (set out at b) at (b ∷ []) (at + 1)
+stored out at b = record { next = refl; laid = refl }
+
+pub dropped : (out : List ℕ) (at b : ℕ) → length out ≤ at → Wrote out out at (b ∷ []) (at + 1)
+dropped out at b h = record { next = refl; laid = sym (set-out out at b h) }
+
+-- one byte more of a text, and all of its bytes
+pub byte-more : (o₀ o o′ s : List ℕ) (at i r : ℕ) → i < length s → Wrote o₀ o at (take i s) (at + i)
+    → Wrote o o′ (at + i) (getD s i 0 ∷ []) r → Wrote o₀ o′ at (take (i + 1) s) (at + (i + 1))
+byte-more o₀ o o′ s at i r h v w =
+    let n : r ≡ at + (i + 1) = omega (arith, w .next) in
+    rw (add-one, take-suc s i 0 h)
+    (subst (λ (k : ℕ). Wrote o₀ o′ at (take i s ++ (getD s i 0 ∷ [])) k) (n ∙ ap (λ (k : ℕ). at + k) (add-one i)) (then v w))
+
+pub bytes-whole : (o o′ s : List ℕ) (at i : ℕ) → i ≡ length s → Wrote o o′ at (take i s) (at + i) → Wrote o o′ at s (at + i)
+bytes-whole o o′ s at i e v =
+    subst (λ (t : List ℕ). Wrote o o′ at t (at + i)) (ap (λ (n : ℕ). take n s) e ∙ take-length s) v
+
+-- one line more, and all of them
+pub line-more : (answer : ℕ → StepAnswer) (a : StepAnswer) (o₀ o o′ : List ℕ) (from at i r : ℕ) → a ≡ answer i
+    → Wrote o₀ o from (lines answer i) at → Wrote o o′ at (line i a) r → Wrote o₀ o′ from (lines answer (i + 1)) r
+unfolding lines
+line-more answer a o₀ o o′ from at i r e v w =
+    rw add-one (then v (subst (λ (x : StepAnswer). Wrote o o′ at (line i x) r) e w))
+
+pub lines-whole : (answer : ℕ → StepAnswer) (o o′ : List ℕ) (from at i n : ℕ) → i ≡ n → Wrote o o′ from (lines answer i) at
+    → Wrote o o′ from (lines answer n) at
+lines-whole answer o o′ from at i n e v = subst (λ (k : ℕ). Wrote o o′ from (lines answer k) at) e v
+
+-- a text from the start on: as much as fits, and what stood behind it
+sets-nil : (i : ℕ) (t : List ℕ) → sets [] i t ≡ []
+sets-nil i [] = refl
+sets-nil i (a ∷ t) = sets-nil (suc i) t
+
+sets-cons : (x : ℕ) (l : List ℕ) (i : ℕ) (t : List ℕ) → sets (x ∷ l) (suc i) t ≡ x ∷ sets l i t
+sets-cons x l i [] = refl
+sets-cons x l i (a ∷ t) = sets-cons x (set l i a) (suc i) t
+
+pub cut : (l t : List ℕ) → sets l 0 t ≡ take (length l) t ++ drop (length t) l
+cut [] t = sets-nil 0 t ∙ sym (drop-nil (length t))
+cut (x ∷ l) [] = refl
+cut (x ∷ l) (a ∷ t) = sets-cons a l 0 t ∙ ap (λ (r : List ℕ). a ∷ r) (cut l t)

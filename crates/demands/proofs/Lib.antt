@@ -5,6 +5,7 @@ pub mod Traces
 pub mod Vrased
 pub mod Decisions
 pub mod Posted
+pub mod Conditions
 pub mod Demand2
 pub mod Memories
 pub mod Demand3

@@ -83,28 +83,32 @@ tells-some n t f g = record {
 
 -- ---- conditions
 
--- each applies at one place at most
-abbrev pub Once : List Condition → Type 0
-Once [] = Unit {0}
-Once (c ∷ cs) = ((p q : ℕ) → c .At p → c .At q → p ≡ q) × Once cs
+-- the first that applies has one number and one place
+pub record Once (cs : List Condition) : Type 0 where
+  pub same : (n m p q : ℕ) → First cs n p → First cs m q → (n ≡ m) × (p ≡ q)
 
-pub once-plain : (P : Type 0) (p q : ℕ) → plain 0 P .At p → plain 0 P .At q → p ≡ q
-once-plain P p q x y = x .0 ∙ sym (y .0)
+pub once-none : Once []
+once-none = record { same = λ n m p q x y. absurd x }
+
+same-more : (c : Condition) (cs : List Condition) → ((p q : ℕ) → c .At p → c .At q → p ≡ q) → Once cs
+    → (n m p q : ℕ) → First (c ∷ cs) n p → First (c ∷ cs) m q → (n ≡ m) × (p ≡ q)
+same-more c cs h o n m p q (inl x) (inl y) = (x .0 ∙ sym (y .0), h p q (x .1) (y .1))
+same-more c cs h o n m p q (inl x) (inr y) = absurd (y .0 p (x .1))
+same-more c cs h o n m p q (inr x) (inl y) = absurd (x .0 q (y .1))
+same-more c cs h o n m p q (inr x) (inr y) = o .same n m p q (x .1) (y .1)
+
+pub once-plain : {n : ℕ} {P : Type 0} {cs : List Condition} → Once cs → Once (plain n P ∷ cs)
+once-plain {n} {P} {cs} o = record { same = same-more (plain n P) cs (λ p q x y. x .0 ∙ sym (y .0)) o }
 
 -- of two first places neither is before the other
-pub once-first : (m : ℕ) (P : ℕ → Type 0) (p q : ℕ) → firstOf 0 m P .At p → firstOf 0 m P .At q → p ≡ q
-once-first m P p q x y =
+one-place : (n m : ℕ) (P : ℕ → Type 0) (p q : ℕ) → firstOf n m P .At p → firstOf n m P .At q → p ≡ q
+one-place n m P p q x y =
     cases (ltb p q)
     (λ e. absurd (y .2 p (ltb-true p q e) (x .1)))
     (λ e. cases (ltb q p) (λ f. absurd (x .2 q (ltb-true q p f) (y .1))) (λ f. omega (arith, ltb-false p q e, ltb-false q p f)))
 
--- so the first of a list that applies is one
-first-once : (cs : List Condition) → Once cs → (n m p q : ℕ) → First cs n p → First cs m q → (n ≡ m) × (p ≡ q)
-first-once [] o n m p q x y = absurd x
-first-once (c ∷ cs) o n m p q (inl x) (inl y) = (x .0 ∙ sym (y .0), o .0 p q (x .1) (y .1))
-first-once (c ∷ cs) o n m p q (inl x) (inr y) = absurd (y .0 p (x .1))
-first-once (c ∷ cs) o n m p q (inr x) (inl y) = absurd (x .0 q (y .1))
-first-once (c ∷ cs) o n m p q (inr x) (inr y) = first-once cs (o .1) n m p q (x .1) (y .1)
+pub once-first : {n m : ℕ} {P : ℕ → Type 0} {cs : List Condition} → Once cs → Once (firstOf n m P ∷ cs)
+once-first {n} {m} {P} {cs} o = record { same = same-more (firstOf n m P) cs (one-place n m P) o }
 
 none-first : (cs : List Condition) (n p : ℕ) → None cs → First cs n p → ⊥
 none-first [] n p x y = y
@@ -201,7 +205,7 @@ answers {cs} {a = Refused q} R Kept o f to from kept =
       refused = λ n p. (
         λ r. f .first n p (to n p r),
         λ y.
-            let e = first-once cs o (q .number) n (q .place) p x y in
+            let e = o .same (q .number) n (q .place) p x y in
             from n p (ap (λ (k : ℕ). refusedAt k (q .place)) (e .0) ∙ ap (λ (k : ℕ). refusedAt n k) (e .1)),
       );
       unrefused = (λ g. absurd (g (q .number) (q .place) (from (q .number) (q .place) refl)), λ y n p r. none-first cs n p y (f .first n p (to n p r)));

@@ -6,6 +6,7 @@ pub mod Vrased
 pub mod Decisions
 pub mod Posted
 pub mod Conditions
+pub mod Demand1
 pub mod Demand2
 pub mod Memories
 pub mod Demand3

@@ -1,0 +1,176 @@
+-- Every public call answers as the rules page's table says: the claims of demand 1. Assumes nothing.
+use mathlib.Core.Path.{_≡_, refl, sym, ap, subst, _∙_}
+use mathlib.Core.Logic.{_≢_, _⊎_, inl, inr}
+use mathlib.Core.Bool.{Bool, true, false, not, _&&_, _||_}
+use mathlib.Core.List.{List, [], _∷_, _++_}
+use Prim.Native.Nat.{ℕ, _+_, _*_, _/_, _%_, _≤_, _<_}
+use native.Mathlib.Omega.{arith}
+use lib.Dec.{ltb, eqb}
+use lib.ListN.{length, getD}
+use borrow.Author.Tests.{not-true, not-false}
+use Rattle.refusal.specs.Answers as A
+use Rattle.refusal.specs.Answers.{refusedAt}
+use Rattle.refusal.specs.declared.Answer.{Answer}
+use Rattle.refusal.specs.declared.Answer.the-variants as call
+use Rattle.refusal.proofs.Tests.{clash, both}
+use Rattle.layout.specs.declared.Region.{Region}
+use Rattle.layout.specs.Regions.{within, reversed, size, shares}
+use Rattle.layout.specs.Layouts.{CR, KR, MR, CTR, AR, region, layoutOf, wrongSize, collide, firstCollision, layoutCheck}
+use Rattle.layout.specs.Calls.{callCheck}
+use Rattle.layout.proofs.Laws.{within-ends, ends-within, shares-exactly}
+use Rattle.monitor.specs.Runs.{count}
+use Rattle.monitor.specs.Promises.{unclean, traceCheck, stepCheck}
+use Rattle.monitor.proofs.Laws.{step-byte}
+use Rattle.hmac.specs.Hmac.{hmac}
+use Rattle.routine.specs.Strings.{same, greater}
+use Rattle.routine.specs.Routine.{token, requestCheck}
+use Rattle.routine.proofs.Order.{same-equal, equal-same}
+use Rattle.board.specs.Memory.{key, counter, challenge, received}
+use Rattle.demands.specs.Demand1 as claim
+use Rattle.demands.specs.Demand1.{Condition, In, Sized, SharedAddress, WrongSize, NotZero, EntryFails, SegmentFails}
+use Rattle.demands.specs.Demand1.{memoryLength, layoutConditions, traceConditions, stepConditions, requestConditions, lengthConditions}
+use Rattle.demands.proofs.Conditions.{Tells, tells-lt, tells-ge, tells-le, tells-lacks, tells-eq, tells-ne, tells-not, tells-or, tells-and, tells-as, tells-flat, tells-some, Once, once-none, once-plain, once-first, Follows, follows-none, follows-plain, follows-first, follows-then, Rows, answers-told, lent-kept}
+
+-- ---- 2 to 6: the layout
+
+-- a size is told without a difference
+tells-sized : (r : Region) (n : ℕ) → 1 ≤ n → Tells (not (eqb (size r) n)) (Sized r n → ⊥)
+tells-sized r n h = tells-not (tells-as (λ e. omega arith) (λ e. omega arith) (tells-eq (size r) n))
+
+tells-small : (r : Region) (n : ℕ) → 1 ≤ n → Tells (ltb (size r) n) (r .hi + 1 < r .lo + n)
+tells-small r n h = tells-as (λ e. omega arith) (λ e. omega arith) (tells-lt (size r) n)
+
+tells-wrong : (b : List ℕ) (k : ℕ) → Tells (wrongSize k (region b k)) (WrongSize b k)
+tells-wrong b k =
+    let r = region b k in
+    tells-flat (tells-or
+    (tells-or
+    (tells-and (tells-eq k KR) (tells-sized r 64 (omega arith)))
+    (tells-and (tells-eq k MR) (tells-small r 96 (omega arith))))
+    (tells-and (tells-eq k CTR) (tells-sized r 32 (omega arith))))
+
+tells-in : (r : Region) (a : ℕ) → Tells (within r a) (In a r)
+tells-in r a = tells-and (tells-le (r .lo) a) (tells-le a (r .hi))
+
+tells-shares : (a b : Region) → reversed a ≡ false → reversed b ≡ false → Tells (shares a b) ((k : ℕ) × In k a × In k b)
+tells-shares a b u v =
+    let s = shares-exactly a b u v in
+    record {
+      yes = λ e. let x = s .0 e in (x .0, within-ends a (x .0) (x .1), within-ends b (x .0) (x .2));
+      no = λ e x. clash (shares a b) (s .1 (x .0, ends-within a (x .0) (x .1 .0) (x .1 .1), ends-within b (x .0) (x .2 .0) (x .2 .1))) e;
+    }
+
+module _ (b : List ℕ) (forward : (k : ℕ) → k < 6 → reversed (region b k) ≡ false) where
+  Shared : ℕ → ℕ → Type 0
+  Shared i j = (i < j) × (((i ≡ CR) × (j ≡ AR) → ⊥) × ((k : ℕ) × In k (region b i) × In k (region b j)))
+
+  tells-collide : (i j : ℕ) → i < 6 → j < 6 → Tells (ltb i j && collide b i j) (Shared i j)
+  unfolding Shared
+  tells-collide i j g h =
+      tells-and (tells-lt i j)
+      (tells-and (tells-not (tells-and (tells-eq i CR) (tells-eq j AR)))
+      (tells-shares (region b i) (region b j) (forward i g) (forward j h)))
+
+  tells-shared : Tells (ltb (firstCollision b) 36) (SharedAddress b)
+  unfolding Shared
+  tells-shared =
+      tells-some 36 (λ n. ltb (n / 6) (n % 6) && collide b (n / 6) (n % 6))
+      (λ n h e.
+      let x = tells-collide (n / 6) (n % 6) (omega arith) (omega arith) .yes e in
+      record {
+        one = n / 6;
+        other = n % 6;
+        address = x .1 .1 .0;
+        ordered = x .0;
+        listed = omega arith;
+        forbidden = x .1 .0;
+        in-one = x .1 .1 .1;
+        in-other = x .1 .1 .2;
+      })
+      (λ f s.
+      let i : ℕ = s .one in
+      let j : ℕ = s .other in
+      let l : i < j = s .ordered in
+      let h : j < 6 = s .listed in
+      let en : (6 * i + j) / 6 ≡ i = omega arith in
+      let em : (6 * i + j) % 6 ≡ j = omega arith in
+      let c : (ltb i j && collide b i j) ≡ false = simp (en, em) at (f (6 * i + j) (omega arith)) in
+      tells-collide i j (omega arith) h .no c (l, (s .forbidden, (s .address, s .in-one, s .in-other))))
+
+follows-layout : (b : List ℕ) → Follows (layoutConditions b) (layoutCheck b)
+unfolding layoutCheck
+follows-layout b =
+    follows-plain 2 (tells-ne (length b) 24) (λ d.
+    follows-first 3 6 (λ k. reversed (region b k)) (λ k. tells-lt (region b k .hi) (region b k .lo)) (λ forward.
+    follows-first 4 6 (λ k. wrongSize k (region b k)) (tells-wrong b) (λ e.
+    follows-plain 5 (tells-in (region b CR) 0) (λ f.
+    follows-plain 6 (tells-shared b forward) (λ g. follows-none)))))
+
+once-layout : (b : List ℕ) (ds : List Condition) → Once ds → Once (layoutConditions b ++ ds)
+once-layout b ds o = once-plain (once-first (once-first (once-plain (once-plain o))))
+
+-- ---- 7 to 9: a trace, or one step
+
+tells-set : (x y z w : ℕ)
+    → Tells (not (ltb x 32 && eqb y 0 && eqb z 0 && eqb w 0)) ((32 ≤ x) ⊎ (y ≢ 0) ⊎ (z ≢ 0) ⊎ (w ≢ 0))
+tells-set x y z w =
+    tells-flat (tells-flat
+    (tells-lacks (ltb x 32 && eqb y 0 && eqb z 0) (eqb w 0)
+    (tells-lacks (ltb x 32 && eqb y 0) (eqb z 0)
+    (tells-lacks (ltb x 32) (eqb y 0) (tells-ge x 32) (tells-ne y 0))
+    (tells-ne z 0))
+    (tells-ne w 0)))
+
+tells-not-zero : (b : List ℕ) (k : ℕ) → Tells (unclean b k) (NotZero b k)
+tells-not-zero b k =
+    rw (
+      step-byte b k 6 (omega arith),
+      step-byte b k 9 (omega arith),
+      step-byte b k 10 (omega arith),
+      step-byte b k 11 (omega arith),
+    ) (tells-set (getD b (12 * k + 6) 0) (getD b (12 * k + 9) 0) (getD b (12 * k + 10) 0) (getD b (12 * k + 11) 0))
+
+follows-trace : (b room : List ℕ) → Follows (traceConditions b room) (traceCheck b (length room))
+unfolding traceCheck
+follows-trace b room =
+    follows-plain 7 (tells-or (tells-ne (length b % 12) 0) (tells-lt 4096 (count b))) (λ d.
+    follows-plain 8 (tells-lt (length room) (4 * count b)) (λ e.
+    follows-first 9 (count b) (unclean b) (tells-not-zero b) (λ f. follows-none)))
+
+once-trace : (b room : List ℕ) → Once (traceConditions b room)
+once-trace b room = once-plain (once-plain (once-first once-none))
+
+follows-step : (b room : List ℕ) → Follows (stepConditions b room) (stepCheck b (length room))
+unfolding stepCheck
+follows-step b room =
+    follows-plain 7 (tells-ne (length b) 12) (λ d.
+    follows-plain 8 (tells-lt (length room) 4) (λ e.
+    follows-plain 9 (tells-not-zero b 0) (λ f. follows-none)))
+
+-- ---- 10 and 11: a request
+
+tells-false : (t : Bool) → Tells (not t) (t ≡ false)
+tells-false t = record { yes = not-true t; no = λ e f. clash t (not-false t e) f }
+
+tells-differ : (a b : List ℕ) → Tells (not (same a b)) (b ≢ a)
+tells-differ a b =
+    tells-not (record { yes = λ e. sym (same-equal a b e); no = λ e f. clash (same a b) (equal-same a b (sym f)) e })
+
+follows-request : (memory layout : List ℕ)
+    → (let l = layoutOf layout in
+    Follows (requestConditions memory layout) (requestCheck (key l memory) (challenge l memory) (received l memory) (counter l memory)))
+unfolding requestCheck token
+follows-request memory layout =
+    let l = layoutOf layout in
+    follows-plain 10 (tells-false (greater (challenge l memory) (counter l memory))) (λ d.
+    follows-plain 11 (tells-differ (hmac (key l memory) (challenge l memory)) (received l memory)) (λ e. follows-none))
+
+-- ---- 1, and the order of a call
+
+follows-call : (memory layout : List ℕ) (ds : List Condition) (rest : Answer) → Follows ds rest
+    → Follows (memoryLength memory ∷ layoutConditions layout ++ ds) (callCheck memory layout rest)
+follows-call memory layout ds rest f =
+    follows-plain 1 (tells-ne (length memory) 65536) (λ d. follows-then (follows-layout layout) f)
+
+once-call : (memory layout : List ℕ) (ds : List Condition) → Once ds → Once (memoryLength memory ∷ layoutConditions layout ++ ds)
+once-call memory layout ds o = once-plain (once-layout layout ds o)

@@ -3,11 +3,14 @@ use mathlib.Core.Path.{_≡_, refl, sym, ap, subst, _∙_}
 use mathlib.Core.Logic.{_≢_, _⊎_, inl, inr}
 use mathlib.Core.Bool.{Bool, true, false, not, _&&_, _||_}
 use mathlib.Core.List.{List, [], _∷_, _++_}
-use Prim.Native.Nat.{ℕ, _+_, _*_, _/_, _%_, _≤_, _<_}
+use Prim.Native.Nat.{ℕ, suc, _+_, _*_, _/_, _%_, _≤_, _<_}
 use native.Mathlib.Omega.{arith}
 use lib.Dec.{ltb, eqb}
 use lib.ListN.{length, getD}
 use borrow.Author.Tests.{not-true, not-false}
+use Rattle.refusal.specs.Choice.{pick}
+use Rattle.refusal.specs.First.{first}
+use Rattle.refusal.specs.Settled.{row-settled}
 use Rattle.refusal.specs.Answers as A
 use Rattle.refusal.specs.Answers.{refusedAt}
 use Rattle.refusal.specs.declared.Answer.{Answer}
@@ -16,19 +19,37 @@ use Rattle.refusal.proofs.Tests.{clash, both}
 use Rattle.layout.specs.declared.Region.{Region}
 use Rattle.layout.specs.Regions.{within, reversed, size, shares}
 use Rattle.layout.specs.Layouts.{CR, KR, MR, CTR, AR, region, layoutOf, wrongSize, collide, firstCollision, layoutCheck}
+use Rattle.layout.specs.declared.Checked.{Checked}
+use Rattle.layout.specs.declared.Checked.the-variants as checked
+use Rattle.layout.specs.Promises as layouts
+use Rattle.layout.specs.Settled as settled
 use Rattle.layout.specs.Calls.{callCheck}
 use Rattle.layout.proofs.Laws.{within-ends, ends-within, shares-exactly}
+use Rattle.monitor.specs.declared.Stepped.{Stepped}
+use Rattle.monitor.specs.declared.Stepped.the-variants as stepped
+use Rattle.monitor.specs.declared.Traced.{Traced}
+use Rattle.monitor.specs.declared.Traced.the-variants as traced
+use Rattle.monitor.specs.Settled.{traced-row-settled, stepped-row-settled}
 use Rattle.monitor.specs.Runs.{count}
-use Rattle.monitor.specs.Promises.{unclean, traceCheck, stepCheck}
+use Rattle.monitor.specs.Promises.{unclean, traceCheck, stepCheck, tracedRow, steppedRow}
 use Rattle.monitor.proofs.Laws.{step-byte}
 use Rattle.hmac.specs.Hmac.{hmac}
 use Rattle.routine.specs.Strings.{same, greater}
 use Rattle.routine.specs.Routine.{token, requestCheck}
 use Rattle.routine.proofs.Order.{same-equal, equal-same}
 use Rattle.board.specs.Memory.{key, counter, challenge, received}
+use Rattle.station.specs.declared.Verdict.{Verdict}
+use Rattle.station.specs.declared.Verdict.the-variants as verdict
+use Rattle.station.specs.Promises as station
+use Rattle.station.specs.Settled.{verdict-settled}
+use Rattle.runfile.specs.Contents as contents
+use Rattle.runfile.specs.Contents.{LAYOUT, MEMORY, TRACE, offset, begins, entryFails, firstFailing, fileCheck, body}
+use Rattle.runfile.specs.Segments.{startAt, sizeAt, place, reached, segments, segmentFails, firstWrong, segmentCheck}
+use Rattle.runfile.specs.Promises.{bodiesCheck, judgeCheck}
 use Rattle.demands.specs.Demand1 as claim
-use Rattle.demands.specs.Demand1.{Condition, In, Sized, SharedAddress, WrongSize, NotZero, EntryFails, SegmentFails}
+use Rattle.demands.specs.Demand1.{Condition, plain, firstOf, In, Sized, SharedAddress, WrongSize, NotZero, EntryFails, SegmentFails}
 use Rattle.demands.specs.Demand1.{memoryLength, layoutConditions, traceConditions, stepConditions, requestConditions, lengthConditions}
+use Rattle.demands.specs.Demand1.{fileCall}
 use Rattle.demands.proofs.Conditions.{Tells, tells-lt, tells-ge, tells-le, tells-lacks, tells-eq, tells-ne, tells-not, tells-or, tells-and, tells-as, tells-flat, tells-some, Once, once-none, once-plain, once-first, Follows, follows-none, follows-plain, follows-first, follows-then, Rows, answers-told, lent-kept}
 
 -- ---- 2 to 6: the layout
@@ -174,3 +195,78 @@ follows-call memory layout ds rest f =
 
 once-call : (memory layout : List ℕ) (ds : List Condition) → Once ds → Once (memoryLength memory ∷ layoutConditions layout ++ ds)
 once-call memory layout ds o = once-plain (once-layout layout ds o)
+
+-- ---- 15 and 13: a run file's contents
+
+tells-entry : (f : List ℕ) (k : ℕ) → Tells (ltb (length f) 24 || entryFails f k) (EntryFails f k)
+unfolding entryFails
+tells-entry f k =
+    let begin = begins f k in
+    tells-or (tells-lt (length f) 24)
+    (tells-flat (tells-flat
+    (tells-or
+    (tells-or
+    (tells-or (tells-ne (offset f k) begin) (tells-lt (length f) (begin + contents.size f k)))
+    (tells-and (tells-eq k LAYOUT) (tells-ne (contents.size f k) 24)))
+    (tells-and (tells-eq k TRACE) (tells-lt (begin + contents.size f k) (length f))))))
+
+-- a file too short for its contents fails at each entry, so first at entry 0
+first-any : (n : ℕ) (u : Bool) (t : ℕ → Bool) → pick u 0 (first (suc n) t) ≡ first (suc n) (λ k. u || t k)
+unfolding first
+first-any n true t = refl
+first-any n false t = refl
+
+follows-file : (f : List ℕ)
+    → Follows (plain 15 (49152 < length f) ∷ firstOf 13 3 (EntryFails f) ∷ []) (fileCheck f)
+unfolding fileCheck firstFailing
+follows-file f =
+    follows-plain 15 (tells-lt 49152 (length f)) (λ d.
+    rw (first-any 2 (ltb (length f) 24) (entryFails f))
+    (follows-first 13 3 (λ k. ltb (length f) 24 || entryFails f k) (tells-entry f) (λ e. follows-none)))
+
+-- ---- 14: the segments of a memory
+
+tells-segment : (b : List ℕ) (k : ℕ) → Tells (segmentFails b k) (SegmentFails b k)
+unfolding segmentFails
+tells-segment b k =
+    let p = place b k in
+    tells-flat (tells-flat (tells-flat
+    (tells-or
+    (tells-or
+    (tells-or
+    (tells-or (tells-lt (length b) (p + 4)) (tells-eq (sizeAt b p) 0))
+    (tells-lt (length b) (p + 4 + sizeAt b p)))
+    (tells-lt (startAt b p) (reached b k)))
+    (tells-lt 65536 (startAt b p + sizeAt b p)))))
+
+follows-segments : (b : List ℕ) → Follows (firstOf 14 (segments b) (SegmentFails b) ∷ []) (segmentCheck b)
+unfolding segmentCheck firstWrong
+follows-segments b = follows-first 14 (segments b) (segmentFails b) (tells-segment b) (λ e. follows-none)
+
+follows-judge : (file memory room : List ℕ) → Follows (fileCall file memory room) (judgeCheck file memory room)
+unfolding judgeCheck bodiesCheck
+follows-judge file memory room =
+    follows-then (follows-file file)
+    (follows-call memory (body file LAYOUT) _ _ (follows-then (follows-segments (body file MEMORY)) (follows-trace (body file TRACE) room)))
+
+-- ---- 12: lengths
+
+follows-length : {t : Bool} {P : Type 0} → Tells t P → Follows (lengthConditions P) (pick t (refusedAt 12 0) call.Done)
+follows-length h = follows-plain 12 h (λ e. follows-none)
+
+-- ---- answers by their rows
+
+checked-rows : Rows Checked layouts.row checked.Refused
+checked-rows = record { refuses = λ q. refl; settled = settled.row-settled }
+
+traced-rows : Rows Traced tracedRow traced.Refused
+traced-rows = record { refuses = λ q. refl; settled = traced-row-settled }
+
+stepped-rows : Rows Stepped steppedRow stepped.Refused
+stepped-rows = record { refuses = λ q. refl; settled = stepped-row-settled }
+
+verdict-rows : Rows Verdict station.row verdict.Refused
+verdict-rows = record { refuses = λ q. refl; settled = verdict-settled }
+
+call-rows : Rows Answer A.row call.Refused
+call-rows = record { refuses = λ q. refl; settled = row-settled }

@@ -12,7 +12,8 @@ use Rattle.refusal.specs.Choice.{pick}
 use Rattle.refusal.specs.First.{first}
 use Rattle.refusal.specs.Settled.{row-settled}
 use Rattle.refusal.specs.Answers as A
-use Rattle.refusal.specs.Answers.{refusedAt}
+use Rattle.refusal.specs.Answers.{refusedIf, refusedAt, told}
+use Rattle.refusal.specs.declared.Refusal.{Refusal}
 use Rattle.refusal.specs.declared.Answer.{Answer}
 use Rattle.refusal.specs.declared.Answer.the-variants as call
 use Rattle.refusal.proofs.Tests.{clash, both}
@@ -25,19 +26,21 @@ use Rattle.layout.specs.Promises as layouts
 use Rattle.layout.specs.Settled as settled
 use Rattle.layout.specs.Calls.{callCheck}
 use Rattle.layout.proofs.Laws.{within-ends, ends-within, shares-exactly}
+use Rattle.rules.specs.Rules.{next}
 use Rattle.monitor.specs.declared.Stepped.{Stepped}
 use Rattle.monitor.specs.declared.Stepped.the-variants as stepped
 use Rattle.monitor.specs.declared.Traced.{Traced}
 use Rattle.monitor.specs.declared.Traced.the-variants as traced
 use Rattle.monitor.specs.Settled.{traced-row-settled, stepped-row-settled}
-use Rattle.monitor.specs.Runs.{count}
-use Rattle.monitor.specs.Promises.{unclean, traceCheck, stepCheck, tracedRow, steppedRow}
+use Rattle.monitor.specs.Runs.{count, steps, totals}
+use Rattle.monitor.specs.Promises.{unclean, traceCheck, stepCheck, values, tracedRow, remembered, steppedRow}
 use Rattle.monitor.proofs.Laws.{step-byte}
 use Rattle.hmac.specs.Hmac.{hmac}
 use Rattle.routine.specs.Strings.{same, greater}
-use Rattle.routine.specs.Routine.{token, requestCheck}
+use Rattle.routine.specs.Routine.{token, reply, requestCheck}
 use Rattle.routine.proofs.Order.{same-equal, equal-same}
 use Rattle.board.specs.Memory.{key, counter, challenge, received}
+use Rattle.board.specs.Attestation.{attestCheck}
 use Rattle.station.specs.declared.Verdict.{Verdict}
 use Rattle.station.specs.declared.Verdict.the-variants as verdict
 use Rattle.station.specs.Promises as station
@@ -45,11 +48,11 @@ use Rattle.station.specs.Settled.{verdict-settled}
 use Rattle.runfile.specs.Contents as contents
 use Rattle.runfile.specs.Contents.{LAYOUT, MEMORY, TRACE, offset, begins, entryFails, firstFailing, fileCheck, body}
 use Rattle.runfile.specs.Segments.{startAt, sizeAt, place, reached, segments, segmentFails, firstWrong, segmentCheck}
-use Rattle.runfile.specs.Promises.{bodiesCheck, judgeCheck}
+use Rattle.runfile.specs.Promises.{bodiesCheck, judgeCheck, fileTotals}
 use Rattle.demands.specs.Demand1 as claim
 use Rattle.demands.specs.Demand1.{Condition, plain, firstOf, In, Sized, SharedAddress, WrongSize, NotZero, EntryFails, SegmentFails}
 use Rattle.demands.specs.Demand1.{memoryLength, layoutConditions, traceConditions, stepConditions, requestConditions, lengthConditions}
-use Rattle.demands.specs.Demand1.{fileCall}
+use Rattle.demands.specs.Demand1.{attestCall, fileCall, Answers}
 use Rattle.demands.proofs.Conditions.{Tells, tells-lt, tells-ge, tells-le, tells-lacks, tells-eq, tells-ne, tells-not, tells-or, tells-and, tells-as, tells-flat, tells-some, Once, once-none, once-plain, once-first, Follows, follows-none, follows-plain, follows-first, follows-then, Rows, answers-told, lent-kept}
 
 -- ---- 2 to 6: the layout
@@ -168,6 +171,9 @@ follows-step b room =
     follows-plain 8 (tells-lt (length room) 4) (λ e.
     follows-plain 9 (tells-not-zero b 0) (λ f. follows-none)))
 
+once-step : (b room : List ℕ) → Once (stepConditions b room)
+once-step b room = once-plain (once-plain (once-plain once-none))
+
 -- ---- 10 and 11: a request
 
 tells-false : (t : Bool) → Tells (not t) (t ≡ false)
@@ -186,6 +192,9 @@ follows-request memory layout =
     follows-plain 10 (tells-false (greater (challenge l memory) (counter l memory))) (λ d.
     follows-plain 11 (tells-differ (hmac (key l memory) (challenge l memory)) (received l memory)) (λ e. follows-none))
 
+once-request : (memory layout : List ℕ) → Once (requestConditions memory layout)
+once-request memory layout = once-plain (once-plain once-none)
+
 -- ---- 1, and the order of a call
 
 follows-call : (memory layout : List ℕ) (ds : List Condition) (rest : Answer) → Follows ds rest
@@ -195,6 +204,10 @@ follows-call memory layout ds rest f =
 
 once-call : (memory layout : List ℕ) (ds : List Condition) → Once ds → Once (memoryLength memory ∷ layoutConditions layout ++ ds)
 once-call memory layout ds o = once-plain (once-layout layout ds o)
+
+follows-attest : (memory layout : List ℕ) → Follows (attestCall memory layout) (attestCheck memory layout)
+unfolding attestCheck
+follows-attest memory layout = follows-call memory layout _ _ (follows-request memory layout)
 
 -- ---- 15 and 13: a run file's contents
 
@@ -254,7 +267,20 @@ follows-judge file memory room =
 follows-length : {t : Bool} {P : Type 0} → Tells t P → Follows (lengthConditions P) (pick t (refusedAt 12 0) call.Done)
 follows-length h = follows-plain 12 h (λ e. follows-none)
 
+-- the same as rows
+told-length : (t : Bool) → refusedIf t 12 ≡ told (pick t (refusedAt 12 0) call.Done) []
+told-length true = refl
+told-length false = refl
+
+refused-by : (t : Bool) (q : Refusal) → pick t (refusedAt 12 0) call.Done ≡ call.Refused q → t ≡ true
+refused-by true q e = refl
+refused-by false q e = absurd (let z : _≡_ {A = ℕ} 0 1 = cc in omega arith)
+
 -- ---- answers by their rows
+
+told-nothing : (a : Answer) → A.row a ≡ told a []
+told-nothing call.Done = refl
+told-nothing (call.Refused q) = refl
 
 checked-rows : Rows Checked layouts.row checked.Refused
 checked-rows = record { refuses = λ q. refl; settled = settled.row-settled }
@@ -270,3 +296,80 @@ verdict-rows = record { refuses = λ q. refl; settled = verdict-settled }
 
 call-rows : Rows Answer A.row call.Refused
 call-rows = record { refuses = λ q. refl; settled = row-settled }
+
+-- ---- the claims
+
+pub layout-answers : claim.LayoutAnswers
+layout-answers layout r p =
+    answers-told Unit (layouts.values (layoutOf layout)) r checked-rows (once-layout layout [] once-none) (follows-layout layout)
+    (λ e. omega arith) (p .answered) (λ q e. tt)
+
+pub trace-answers : claim.TraceAnswers
+trace-answers memory layout trace room memory′ room′ r p =
+    answers-told _ (values (totals (layoutOf layout) trace memory)) r traced-rows
+    (once-call memory layout _ (once-trace trace room))
+    (follows-call memory layout _ _ (follows-trace trace room))
+    (λ e. omega arith) (p .answered)
+    (λ q e. (p .memory-left ∙ lent-kept _ memory e, p .room-left ∙ lent-kept _ room e))
+
+pub step-answers : claim.StepAnswers
+step-answers memory layout step m room memory′ room′ r p =
+    answers-told _ (remembered (next (layoutOf layout) m (steps step 0))) r stepped-rows
+    (once-call memory layout _ (once-step step room))
+    (follows-call memory layout _ _ (follows-step step room))
+    (λ e. omega arith) (p .answered)
+    (λ q e. (p .memory-left ∙ lent-kept _ memory e, p .room-left ∙ lent-kept _ room e))
+
+pub attest-answers : claim.AttestAnswers
+attest-answers memory layout memory′ r p =
+    answers-told _ [] r call-rows (once-call memory layout _ (once-request memory layout)) (follows-attest memory layout)
+    (λ e. omega arith) (p .answered ∙ told-nothing (attestCheck memory layout)) (λ q e. p .memory-left ∙ lent-kept _ memory e)
+
+pub judge-answers : claim.JudgeAnswers
+judge-answers file memory room memory′ room′ r p =
+    answers-told _ (values (fileTotals file)) r traced-rows
+    (once-plain (once-first (once-call memory (body file LAYOUT) _ (once-first (once-trace (body file TRACE) room)))))
+    (follows-judge file memory room)
+    (λ e. omega arith) (p .answered)
+    (λ q e. (p .memory-left ∙ lent-kept _ memory e, p .room-left ∙ lent-kept _ room e))
+
+one-of-two : (t : Bool) → length (pick {A = List ℕ} t (1 ∷ 0 ∷ []) (0 ∷ 1 ∷ [])) ≢ 1
+one-of-two true e = omega arith
+one-of-two false e = omega arith
+
+pub check-answers : claim.CheckAnswers
+check-answers k c given region r p =
+    answers-told Unit _ r verdict-rows (once-plain once-none)
+    (follows-length
+    (tells-flat (tells-flat (tells-flat
+    (tells-or
+    (tells-or
+    (tells-or (tells-or (tells-ne (length k) 64) (tells-ne (length c) 32)) (tells-ne (length given) 32))
+    (tells-eq (length region) 0))
+    (tells-lt 65536 (length region)))))))
+    (one-of-two (same given (reply k c region))) (p .answered) (λ q e. tt)
+
+-- those whose answer tells nothing besides
+length-answers : {t : Bool} {P : Type 0} (r : Answer) (Kept : Type 0) → Tells t P → A.row r ≡ refusedIf t 12 → (t ≡ true → Kept)
+    → Answers (lengthConditions P) (λ n p. r ≡ refusedAt n p) Kept
+length-answers {t} r Kept h e kept =
+    answers-told Kept [] r call-rows (once-plain once-none) (follows-length h) (λ d. omega arith) (e ∙ told-length t)
+    (λ q d. kept (refused-by t q d))
+
+pub token-answers : claim.TokenAnswers
+token-answers k c r p =
+    length-answers (r .answer) Unit (tells-or (tells-ne (length k) 64) (tells-ne (length c) 32)) (p .answered) (λ e. tt)
+
+pub hash-answers : claim.HashAnswers
+hash-answers m r p = length-answers (r .answer) Unit (tells-lt 131072 (length m)) (p .answered) (λ e. tt)
+
+pub take-in-answers : claim.TakeInAnswers
+take-in-answers s x r p =
+    length-answers (r .answer) _ (tells-lt 131072 (s .total + length x)) (p .answered) (λ e. p .handed ∙ simp e)
+
+pub finish-answers : claim.FinishAnswers
+finish-answers s r p = length-answers (r .answer) Unit (tells-lt 131072 (s .total)) (p .answered) (λ e. tt)
+
+pub mac-answers : claim.MacAnswers
+mac-answers k m r p =
+    length-answers (r .answer) Unit (tells-or (tells-lt 65536 (length k)) (tells-lt 65536 (length m))) (p .answered) (λ e. tt)

@@ -17,7 +17,7 @@ use Rattle.refusal.specs.Settled.{row-settled}
 use Rattle.refusal.specs.declared.Refusal.{Refusal}
 use Rattle.refusal.specs.declared.Answer.{Answer}
 use Rattle.refusal.specs.declared.Answer.the-variants.{Done, Refused}
-use Rattle.refusal.proofs.Tests.{cases, clash}
+use Rattle.refusal.proofs.Tests.{cases}
 use Rattle.refusal.proofs.First.{first-found, first-least, none-found}
 use Rattle.demands.specs.Demand1.{Condition, plain, firstOf, Absent, First, None, Answers}
 
@@ -190,27 +190,28 @@ follows-then {cs} {ds} {a = Refused r} f g = record {
 
 -- ---- calls
 
--- an answer tells the check's refusals and no others
-pub answers : {cs : List Condition} {a : Answer} (R : ℕ → ℕ → Type 0) (Kept : Type 0) → Once cs → Follows cs a
+first-refuses : (cs : List Condition) (a : Answer) → Once cs → Follows cs a → (n p : ℕ) → First cs n p → a ≡ refusedAt n p
+first-refuses cs Done o f n p x = absurd (none-first cs n p (f .none refl) x)
+first-refuses cs (Refused q) o f n p x =
+    let e = o .same (q .number) n (q .place) p (f .first (q .number) (q .place) refl) x in
+    ap (λ (k : ℕ). refusedAt k (q .place)) (e .0) ∙ ap (λ (k : ℕ). refusedAt n k) (e .1)
+
+passes-none : (cs : List Condition) (a : Answer) → Follows cs a → ((n p : ℕ) → a ≡ refusedAt n p → ⊥) → None cs
+passes-none cs Done f g = f .none refl
+passes-none cs (Refused q) f g = absurd (g (q .number) (q .place) refl)
+
+-- a call that tells the check's refusals and no others
+answers : {cs : List Condition} {a : Answer} (R : ℕ → ℕ → Type 0) (Kept : Type 0) → Once cs → Follows cs a
     → ((n p : ℕ) → R n p → a ≡ refusedAt n p) → ((n p : ℕ) → a ≡ refusedAt n p → R n p)
     → ((n p : ℕ) → a ≡ refusedAt n p → Kept) → Answers cs R Kept
-answers {cs} {a = Done} R Kept o f to from kept = record {
-  refused = λ n p. (λ r. f .first n p (to n p r), λ x. absurd (none-first cs n p (f .none refl) x));
-  unrefused = (λ g. f .none refl, λ x n p r. none-first cs n p x (f .first n p (to n p r)));
+answers {cs} {a} R Kept o f to from kept = record {
+  refused = λ n p. (λ r. f .first n p (to n p r), λ x. from n p (first-refuses cs a o f n p x));
+  unrefused = (
+    λ g. passes-none cs a f (λ n p e. g n p (from n p e)),
+    λ x n p r. none-first cs n p x (f .first n p (to n p r)),
+  );
   kept = λ n p r. kept n p (to n p r);
 }
-answers {cs} {a = Refused q} R Kept o f to from kept =
-    let x = f .first (q .number) (q .place) refl in
-    record {
-      refused = λ n p. (
-        λ r. f .first n p (to n p r),
-        λ y.
-            let e = o .same (q .number) n (q .place) p x y in
-            from n p (ap (λ (k : ℕ). refusedAt k (q .place)) (e .0) ∙ ap (λ (k : ℕ). refusedAt n k) (e .1)),
-      );
-      unrefused = (λ g. absurd (g (q .number) (q .place) (from (q .number) (q .place) refl)), λ y n p r. none-first cs n p y (f .first n p (to n p r)));
-      kept = λ n p r. kept n p (to n p r);
-    }
 
 -- a row that tells a refusal is no other's; one value behind 0 would look like a place
 told-refusal : (a : Answer) (q : Refusal) (v : List ℕ) → length v ≢ 1 → A.row (Refused q) ≡ told a v → a ≡ Refused q
@@ -222,15 +223,16 @@ pub record Rows (R : Type 0) (row : R → List ℕ) (refuse : Refusal → R) : T
   pub refuses : (q : Refusal) → row (refuse q) ≡ A.row (Refused q)
   pub settled : (r s : R) → row r ≡ row s → r ≡ s
 
--- a call that tells the check's refusal, or values behind 0
-pub answers-told : {R : Type 0} {row : R → List ℕ} {refuse : Refusal → R} {cs : List Condition} {a : Answer} (Kept : Type 0) (v : List ℕ) (r : R)
-    → Rows R row refuse → Once cs → Follows cs a → length v ≢ 1 → row r ≡ told a v → ((q : Refusal) → a ≡ Refused q → Kept)
-    → Answers cs (λ n p. r ≡ refuse (record { number = n; place = p })) Kept
+-- a call whose row is the check's refusal, or values behind 0
+pub answers-told : {R : Type 0} {row : R → List ℕ} {refuse : Refusal → R} {cs : List Condition} {a : Answer}
+    (Kept : Type 0) (v : List ℕ) (r : R) → Rows R row refuse → Once cs → Follows cs a → length v ≢ 1 → row r ≡ told a v
+    → ((q : Refusal) → a ≡ Refused q → Kept) → Answers cs (λ n p. r ≡ refuse (record { number = n; place = p })) Kept
 answers-told {R} {row} {refuse} {cs} {a} Kept v r w o f h e kept =
+    let q : ℕ → ℕ → Refusal = λ n p. record { number = n; place = p } in
     answers _ Kept o f
-    (λ n p d. let q : Refusal = record { number = n; place = p } in told-refusal a q v h (sym (w .refuses q) ∙ ap row (sym d) ∙ e))
-    (λ n p d. let q : Refusal = record { number = n; place = p } in w .settled r (refuse q) (e ∙ ap (λ (x : Answer). told x v) d ∙ sym (w .refuses q)))
-    (λ n p d. kept (record { number = n; place = p }) d)
+    (λ n p d. told-refusal a (q n p) v h (sym (w .refuses (q n p)) ∙ ap row (sym d) ∙ e))
+    (λ n p d. w .settled r (refuse (q n p)) (e ∙ ap (λ (x : Answer). told x v) d ∙ sym (w .refuses (q n p))))
+    (λ n p d. kept (q n p) d)
 
 -- what is lent to a call that is refused
 pub lent-kept : {a : Answer} {q : Refusal} (new old : List ℕ) → a ≡ Refused q → lent a new old ≡ old

@@ -1,6 +1,6 @@
 -- Every public call answers as the rules page's table says: the claims of demand 1. Assumes nothing.
-use mathlib.Core.Path.{_≡_, refl, sym, ap, subst, _∙_}
-use mathlib.Core.Logic.{_≢_, _⊎_, inl, inr}
+use mathlib.Core.Path.{_≡_, refl, sym, _∙_}
+use mathlib.Core.Logic.{_≢_, _⊎_}
 use mathlib.Core.Bool.{Bool, true, false, not, _&&_, _||_}
 use mathlib.Core.List.{List, [], _∷_, _++_}
 use Prim.Native.Nat.{ℕ, suc, _+_, _*_, _/_, _%_, _≤_, _<_}
@@ -16,7 +16,7 @@ use Rattle.refusal.specs.Answers.{refusedIf, refusedAt, told}
 use Rattle.refusal.specs.declared.Refusal.{Refusal}
 use Rattle.refusal.specs.declared.Answer.{Answer}
 use Rattle.refusal.specs.declared.Answer.the-variants as call
-use Rattle.refusal.proofs.Tests.{clash, both}
+use Rattle.refusal.proofs.Tests.{clash}
 use Rattle.layout.specs.declared.Region.{Region}
 use Rattle.layout.specs.Regions.{within, reversed, size, shares}
 use Rattle.layout.specs.Layouts.{CR, KR, MR, CTR, AR, region, layoutOf, wrongSize, collide, firstCollision, layoutCheck}
@@ -53,7 +53,9 @@ use Rattle.demands.specs.Demand1 as claim
 use Rattle.demands.specs.Demand1.{Condition, plain, firstOf, In, Sized, SharedAddress, WrongSize, NotZero, EntryFails, SegmentFails}
 use Rattle.demands.specs.Demand1.{memoryLength, layoutConditions, traceConditions, stepConditions, requestConditions, lengthConditions}
 use Rattle.demands.specs.Demand1.{attestCall, fileCall, Answers}
-use Rattle.demands.proofs.Conditions.{Tells, tells-lt, tells-ge, tells-le, tells-lacks, tells-eq, tells-ne, tells-not, tells-or, tells-and, tells-as, tells-flat, tells-some, Once, once-none, once-plain, once-first, Follows, follows-none, follows-plain, follows-first, follows-then, Rows, answers-told, lent-kept}
+use Rattle.demands.proofs.Conditions.{Tells, tells-lt, tells-ge, tells-le, tells-eq, tells-ne, tells-not, tells-or, tells-and}
+use Rattle.demands.proofs.Conditions.{tells-lacks, tells-as, tells-flat, tells-some, Once, once-none, once-plain, once-first}
+use Rattle.demands.proofs.Conditions.{Follows, follows-none, follows-plain, follows-first, follows-then, Rows, answers-told, lent-kept}
 
 -- ---- 2 to 6: the layout
 
@@ -84,19 +86,19 @@ tells-shares a b u v =
       no = λ e x. clash (shares a b) (s .1 (x .0, ends-within a (x .0) (x .1 .0) (x .1 .1), ends-within b (x .0) (x .2 .0) (x .2 .1))) e;
     }
 
-module _ (b : List ℕ) (forward : (k : ℕ) → k < 6 → reversed (region b k) ≡ false) where
-  Shared : ℕ → ℕ → Type 0
-  Shared i j = (i < j) × (((i ≡ CR) × (j ≡ AR) → ⊥) × ((k : ℕ) × In k (region b i) × In k (region b j)))
+-- two regions share an address and may not
+abbrev Shared : List ℕ → ℕ → ℕ → Type 0
+Shared b i j = (i < j) × (((i ≡ CR) × (j ≡ AR) → ⊥) × ((k : ℕ) × In k (region b i) × In k (region b j)))
 
-  tells-collide : (i j : ℕ) → i < 6 → j < 6 → Tells (ltb i j && collide b i j) (Shared i j)
-  unfolding Shared
+-- which the test finds where no region is reversed
+module _ (b : List ℕ) (forward : (k : ℕ) → k < 6 → reversed (region b k) ≡ false) where
+  tells-collide : (i j : ℕ) → i < 6 → j < 6 → Tells (ltb i j && collide b i j) (Shared b i j)
   tells-collide i j g h =
       tells-and (tells-lt i j)
       (tells-and (tells-not (tells-and (tells-eq i CR) (tells-eq j AR)))
       (tells-shares (region b i) (region b j) (forward i g) (forward j h)))
 
   tells-shared : Tells (ltb (firstCollision b) 36) (SharedAddress b)
-  unfolding Shared
   tells-shared =
       tells-some 36 (λ n. ltb (n / 6) (n % 6) && collide b (n / 6) (n % 6))
       (λ n h e.

@@ -325,7 +325,7 @@ step-answers memory layout step m room memory′ room′ r p =
 pub attest-answers : claim.AttestAnswers
 attest-answers memory layout memory′ r p =
     answers-told _ [] r call-rows (once-call memory layout _ (once-request memory layout)) (follows-attest memory layout)
-    (λ e. omega arith) (p .answered ∙ told-nothing (attestCheck memory layout)) (λ q e. p .memory-left ∙ lent-kept _ memory e)
+    (λ e. omega arith) (p .answered ∙ told-nothing (attestCheck memory layout)) (λ q e. cc (p .memory-left ∙ lent-kept _ memory e))
 
 pub judge-answers : claim.JudgeAnswers
 judge-answers file memory room memory′ room′ r p =
@@ -367,7 +367,7 @@ hash-answers m r p = length-answers (r .answer) Unit (tells-lt 131072 (length m)
 
 pub take-in-answers : claim.TakeInAnswers
 take-in-answers s x r p =
-    length-answers (r .answer) _ (tells-lt 131072 (s .total + length x)) (p .answered) (λ e. p .handed ∙ simp e)
+    length-answers (r .answer) _ (tells-lt 131072 (s .total + length x)) (p .answered) (λ e. let k : r .state ≡ s = p .handed ∙ simp e in cc)
 
 pub finish-answers : claim.FinishAnswers
 finish-answers s r p = length-answers (r .answer) Unit (tells-lt 131072 (s .total)) (p .answered) (λ e. tt)

@@ -5,6 +5,8 @@ pub mod Traces
 pub mod Vrased
 pub mod Decisions
 pub mod Posted
+pub mod Conditions
+pub mod Demand1
 pub mod Demand2
 pub mod Memories
 pub mod Demand3

@@ -9,6 +9,6 @@ fn main() {
     let mut room = [0u8; 16384];
     let mut out = [0u8; 52125];
     let n = io::read_full(STDIN_FILENO, &mut file);
-    let k = report::text(&file[..n], &mut memory, &mut room, &mut out);
-    io::write_all(STDOUT_FILENO, &out[..k]);
+    let k = report::text(&file[0..n], &mut memory, &mut room, &mut out);
+    io::write_all(STDOUT_FILENO, &out[0..k]);
 }

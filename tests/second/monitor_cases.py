@@ -10,6 +10,7 @@ from typing import Iterator, NamedTuple, Union
 
 import board
 import page
+import runfile
 from board import Layout, Monitor, Totals
 from made_cases import HEAD, KEPT, LAYOUT_CALL, LAYOUT_FIELD, RECORD, STEP_CALL, TRACE_CALL, repeated, stdin
 from refusal import Refusal
@@ -66,7 +67,7 @@ def met(done: Made) -> Iterator[str]:
         yield f"refusal {done.answer.number}"
         yield f"refusal {done.answer.number} by call {done.call}"
         yield f"refusal {done.answer.number} at {done.answer.place}"
-    if isinstance(done.answer, Totals) and page.report(done.answer, done.room) == page.REPORT:
+    if isinstance(done.answer, Totals) and runfile.report(done.answer, done.room) == page.REPORT:
         yield "the page's whole case"
     if isinstance(done.answer, (Monitor, Totals)):
         for i in range(0, len(done.trace), board.STEP_BYTES):

@@ -5,6 +5,7 @@ import struct
 from typing import Iterator, NamedTuple, Optional
 
 import board
+import runfile
 from board import DMA, DMA_WRITES, INTERRUPT, READS, WRITES, Monitor
 from refusal import Refusal
 
@@ -13,10 +14,13 @@ def step_bytes(pc: int, cpu: int = 0, dma: int = 0, flags: int = 0, cpu_data: in
     return struct.pack("<HHHBBB3x", pc, cpu, dma, flags, cpu_data, dma_data)
 
 
+# The whole case as a run file: the contents, and the bodies of layout, memory and trace.
+
+CONTENTS = bytes.fromhex("18000000 18000000 30000000 0b000000 3b000000 54000000")
+
 LAYOUT = bytes.fromhex("00a0ffa0 006a3f6a 0004ff07 30028f02 00031f03 00e0ffff")
 
-# Each a start and the bytes from there on; all other bytes of the memory are 0.
-SEGMENTS = ((0x6A00, bytes.fromhex("5a")), (0xE000, bytes.fromhex("1122")))
+MEMORY_BODY = bytes.fromhex("006a0100 5a 00e00200 1122")
 
 TRACE = bytes.fromhex(
     "000000000000 000000000000"
@@ -27,6 +31,8 @@ TRACE = bytes.fromhex(
     "00a0006a0000 010000000000"
     "06c000000000 000000000000"
 )
+
+FILE = CONTENTS + LAYOUT + MEMORY_BODY + TRACE
 
 REPORT = """\
 step cause cpu dma
@@ -39,6 +45,9 @@ step cause cpu dma
 6 2 - -
 steps 7 resets 3
 """
+
+# What the memory body says: each a start and the bytes from there on; all other bytes of the memory are 0.
+SEGMENTS = ((0x6A00, bytes.fromhex("5a")), (0xE000, bytes.fromhex("1122")))
 
 
 class Marked(NamedTuple):
@@ -86,19 +95,10 @@ def memory() -> bytearray:
     return contents
 
 
-def report(totals: board.Totals, room: bytes) -> str:
-    """The answers of a trace as the page prints them."""
-    lines = ["step cause cpu dma"]
-    for number in range(totals.steps):
-        cause, exposed, cpu, dma = room[4 * number : 4 * number + 4]
-        lines.append(f"{number} {cause} {f'{cpu:02x}' if exposed & 1 else '-'} {f'{dma:02x}' if exposed & 2 else '-'}")
-    return "\n".join([*lines, f"steps {totals.steps} resets {totals.resets}", ""])
-
-
 def whole_case_faults() -> Iterator[str]:
     room = bytearray(b"\xa5" * 31)
     totals = board.judge_trace(memory(), LAYOUT, TRACE, room)
-    if isinstance(totals, Refusal) or report(totals, room) != REPORT:
+    if isinstance(totals, Refusal) or runfile.report(totals, room) != REPORT:
         yield "the page's whole case comes out otherwise"
     if room[28:] != b"\xa5\xa5\xa5":
         yield "the room behind the answers was changed"
@@ -193,3 +193,8 @@ def refusal_faults() -> Iterator[str]:
 def self_test() -> list[str]:
     """Where the second implementation differs from these."""
     return [*whole_case_faults(), *marked_faults(), *effect_faults(), *layout_faults(), *refusal_faults()]
+
+
+def files() -> dict[str, bytes]:
+    """The files of the program `judge`, by name: the page's own."""
+    return {"stdin": FILE, "stdout": REPORT.encode()}

@@ -1,0 +1,79 @@
+// Judges the run files on standard input, one after the other, and prints of each what the program `judge` prints. A file stands behind its
+// length, a 32-bit little-endian number of at most 49,153, which is one byte more than a file may have. Memory and room are kept from file to
+// file, so that what one leaves there is not seen by the next. tests/second makes the files and works the same text out by itself.
+use libc::STDIN_FILENO;
+use libc::STDOUT_FILENO;
+ghost use Prim.Native.Nat.{_<_, _≤_};
+ghost use lib.ListN.{length};
+
+type Memory = [u8; 65536];
+
+type Room = [u8; 16384];
+
+const MOST: usize = 49_153;
+
+fn fill(memory: &mut Memory) {
+    let mut a = 0;
+    while a < 65536 {
+        memory[a] = ((7 * a + a / 256) % 256) as u8;
+        a += 1;
+    }
+}
+
+fn wide(x: u8) -> usize
+    ensures { λ r. ⌜ r < 256 ⌝ }
+{
+    x as usize
+}
+
+fn number(head: &[u8; 4]) -> usize {
+    wide(head[0]) + 256 * wide(head[1]) + 65536 * wide(head[2]) + 16777216 * wide(head[3])
+}
+
+fn print(file: &[u8], memory: &mut Memory, room: &mut Room) {
+    let mut out = [0u8; 52125];
+    let k = report::text(file, memory, room, &mut out);
+    io::write_all(STDOUT_FILENO, &out[0..k]);
+}
+
+// Reads n bytes, judges them, and tells whether they were there.
+fn judge(file: &mut [u8], n: usize, memory: &mut Memory, room: &mut Room) -> bool
+    requires { ⌜ n ≤ length (now file) ⌝ }
+{
+    if io::read_full(STDIN_FILENO, &mut file[0..n]) < n {
+        return false;
+    }
+    print(&file[0..n], memory, room);
+    true
+}
+
+// Judges the next file, and tells whether there was one.
+fn next(memory: &mut Memory, room: &mut Room) -> bool {
+    let mut head = [0u8; 4];
+    let mut file = [0u8; 49153];
+    let got = io::read_full(STDIN_FILENO, &mut head);
+    if got == 0 {
+        return false;
+    }
+    let n = number(&head);
+    if got == 4 && n <= MOST && judge(&mut file, n, memory, room) {
+        return true;
+    }
+    io::write_all(STDOUT_FILENO, b"cut\n");
+    false
+}
+
+// Nothing says that the input ends, and a proved loop has to: the turns count down from a number that no run uses up.
+fn all(memory: &mut Memory, room: &mut Room) {
+    let mut turns = u64::MAX;
+    while turns > 0 && next(memory, room) {
+        turns -= 1;
+    }
+}
+
+fn main() {
+    let mut memory = [0u8; 65536];
+    let mut room = [0u8; 16384];
+    fill(&mut memory);
+    all(&mut memory, &mut room);
+}

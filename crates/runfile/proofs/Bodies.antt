@@ -41,22 +41,22 @@ module _ (body trace : List ℕ) (room : ℕ) (a : Answer) (e : row a ≡ row (s
 -- ---- the call
 
 -- what it promises: memory′ and room′ stand there afterwards
-abbrev BodiesJudged : (layout body trace memory room memory′ room′ : List ℕ) (r : Traced) → Type 0
-BodiesJudged layout body trace memory room memory′ room′ r =
+abbrev pub Judges : (layout body trace memory room memory′ room′ : List ℕ) (r : Traced) → Type 0
+Judges layout body trace memory room memory′ room′ r =
     (tracedRow r ≡ told (bodiesCheck layout body trace memory room) (values (totals (layoutOf layout) trace (described body))))
     × (memory′ ≡ lent (bodiesCheck layout body trace memory room) (memoryAfter (layoutOf layout) trace (described body)) memory)
     × (room′ ≡ lent (bodiesCheck layout body trace memory room) (roomAfter (layoutOf layout) trace (described body) room) room)
 
 module _ (layout body trace memory room : List ℕ) where
   -- all that was checked
-  pub record BodiesPassed (l : Layout) : Type 0 where
+  pub record Passed (l : Layout) : Type 0 where
     pub check : bodiesCheck layout body trace memory room ≡ Done
     pub read : l ≡ layoutOf layout
     pub long : length memory ≡ memoryBytes
     pub segmented : segmentCheck body ≡ Done
     pub roomy : answerSize * count trace ≤ length room
 
-  pub passed : (l : Layout) → Admits memory layout (rest body trace (length room)) (checked.Good l) → BodiesPassed l
+  pub passed : (l : Layout) → Admits memory layout (rest body trace (length room)) (checked.Good l) → Passed l
   unfolding bodiesCheck
   passed l e =
       let g = admitted-good memory layout (rest body trace (length room)) l e in
@@ -65,15 +65,15 @@ module _ (layout body trace memory room : List ℕ) where
       record { check = g .0; read = g .1; long = p .0; segmented = q .0; roomy = trace-passed trace (length room) (q .1) .roomy }
 
   -- the run on the memory that was filled: it is not refused
-  pub judged : (l : Layout) (memory₁ memory′ room′ : List ℕ) (r : Traced) → BodiesPassed l → memory₁ ≡ described body
-      → Runs l trace memory₁ room memory′ room′ r → BodiesJudged layout body trace memory room memory′ room′ r
+  pub judged : (l : Layout) (memory₁ memory′ room′ : List ℕ) (r : Traced) → Passed l → memory₁ ≡ described body
+      → Runs l trace memory₁ room memory′ room′ r → Judges layout body trace memory room memory′ room′ r
   judged l memory₁ memory′ room′ r p e f =
       let c = run-passes trace (described body) (length room) (length-described body (p .segmented)) (p .roomy) in
       let q = subst (λ (k : Layout). Runs k trace (described body) room memory′ room′ r) (p .read) (subst (λ (m : List ℕ). Runs l trace m room memory′ room′ r) e f) in
       (simp (p .check) (simp c at (q .answered)), simp (p .check) (simp c at (q .memory-left)), simp (p .check) (simp c at (q .room-left)))
 
   pub refused : (r : Refusal) → Admits memory layout (rest body trace (length room)) (checked.Refused r)
-      → BodiesJudged layout body trace memory room memory room (traced.Refused r)
+      → Judges layout body trace memory room memory room (traced.Refused r)
   unfolding bodiesCheck
   refused r e =
       let g = admitted-refused memory layout (rest body trace (length room)) r e in

@@ -16,3 +16,4 @@ pub mod Witness
 pub mod History
 pub mod Visit
 pub mod Script
+pub mod Files

@@ -1,10 +1,11 @@
 pub mod Marked
 pub mod Traces
 pub mod Vrased
+pub mod Demand1
 pub mod Demand2
 pub mod Demand3
 pub mod Witness
 pub mod History
 pub mod Visit
 pub mod Script
-pub mod Demand1
+pub mod Files

@@ -1,5 +1,5 @@
 -- The checks of the calls: what has passed, and what then passes too. Assumes nothing.
-use mathlib.Core.Path.{_≡_, refl, ap}
+use mathlib.Core.Path.{_≡_, refl, ap, sym}
 use mathlib.Core.Bool.{false, not, _||_}
 use mathlib.Core.List.{List}
 use Prim.Native.Nat.{ℕ, _*_, _%_, _≤_, _<_}
@@ -10,6 +10,8 @@ use lib.Seq.{take-take}
 use borrow.Author.Tests.{eqb-true, eq-eqb, ltb-false, le-ltb, not-false}
 use Rattle.refusal.specs.Numbers.{roomSize, stepNotZero}
 use Rattle.refusal.specs.Answers.{told}
+use Rattle.refusal.specs.Settled.{row-settled}
+use Rattle.refusal.specs.declared.Refusal.{Refusal}
 use Rattle.refusal.specs.declared.Answer.{Answer}
 use Rattle.refusal.specs.declared.Answer.the-variants.{Done, Refused}
 use Rattle.refusal.proofs.Tests.{neither}
@@ -74,6 +76,10 @@ module _ (trace : List ℕ) (room : ℕ) (f : Fitting trace room) (i : ℕ) (h :
 pub traced-judged : (a : Answer) (t u : Totals) → tracedRow (traced.Judged t) ≡ told a (values u) → (a ≡ Done) × (t ≡ u)
 traced-judged Done t u e = (refl, cc (traced-row-settled (traced.Judged t) (traced.Judged u) e))
 traced-judged (Refused f) t u e = absurd (let z : _≡_ {A = ℕ} 0 1 = cc in omega arith)
+
+pub traced-refused : (a : Answer) (q : Refusal) (u : Totals) → tracedRow (traced.Refused q) ≡ told a (values u) → a ≡ Refused q
+traced-refused Done q u e = absurd (let z : _≡_ {A = ℕ} 2 3 = ap length e in omega arith)
+traced-refused (Refused f) q u e = row-settled (Refused f) (Refused q) (sym e)
 
 pub stepped-judged : (a : Answer) (m n : Monitor) → steppedRow (stepped.Judged m) ≡ told a (remembered n) → (a ≡ Done) × (m ≡ n)
 stepped-judged Done m n e = (refl, monitor-settled m n (cc))

@@ -1,6 +1,6 @@
 -- Refusals in order: a call that is done has passed each test, and one that is refused has failed one. Assumes nothing.
 use mathlib.Core.Path.{_≡_, refl, subst}
-use mathlib.Core.Bool.{Bool, true, false}
+use mathlib.Core.Bool.{Bool, true, false, true≢false}
 use Prim.Native.Nat.{ℕ}
 use native.Mathlib.Omega.{arith}
 use Rattle.refusal.specs.Choice.{pick}
@@ -29,6 +29,14 @@ pub refuses-test : (P : ℕ → Type 0) (t : Bool) (n p : ℕ) (a : Answer) → 
 refuses-test P true n p a h f r e = subst P (let z : n ≡ r .number = cc in z) h
 refuses-test P false n p a h f r e = f r e
 
+pub refuses-after : (P : ℕ → Type 0) (a b : Answer) → Refuses P a → (a ≡ Done → Refuses P b) → Refuses P (andThen a b)
+refuses-after P Done b f g = g refl
+refuses-after P (Refused r) b f g = f
+
 pub refuses-then : (P : ℕ → Type 0) (a b : Answer) → Refuses P a → Refuses P b → Refuses P (andThen a b)
-refuses-then P Done b f g = g
-refuses-then P (Refused r) b f g = f
+refuses-then P a b f g = refuses-after P a b f (λ e. g)
+
+-- a test that fails refuses nothing
+pub refuses-untested : (P : ℕ → Type 0) (t : Bool) (n p : ℕ) (a : Answer) → t ≡ false → Refuses P a → Refuses P (pick t (refusedAt n p) a)
+refuses-untested P true n p a e f = absurd (true≢false e)
+refuses-untested P false n p a e f = f

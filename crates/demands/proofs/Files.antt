@@ -1,0 +1,154 @@
+-- Run files, proved. Assumes nothing.
+use mathlib.Core.Path.{_≡_, refl, ap, sym, subst, _∙_}
+use mathlib.Core.Logic.{_≢_, _⊎_, inl, inr}
+use mathlib.Core.Bool.{not, _||_}
+use mathlib.Core.List.{List}
+use Prim.Native.Nat.{ℕ, _*_, _%_, _≤_, _<_}
+use native.Mathlib.Omega.{arith}
+use lib.Dec.{ltb, eqb}
+use lib.ListN.{length, length-take, length-drop}
+use borrow.Author.Tests.{ltb-true, ltb-false, eq-eqb}
+use Rattle.refusal.specs.Choice.{pick}
+use Rattle.refusal.specs.Answers.{refusedAt, andThen, told, lent}
+use Rattle.refusal.specs.Numbers.{memorySize, layoutSize, regionReversed, regionSize, zeroInCode, regionsShare, traceSize, roomSize, stepNotZero, contents, segment, fileSize}
+use Rattle.refusal.specs.declared.Refusal.{Refusal}
+use Rattle.refusal.specs.declared.Answer.{Answer}
+use Rattle.refusal.specs.declared.Answer.the-variants as call
+use Rattle.refusal.proofs.Tests.{cases}
+use Rattle.refusal.proofs.Order.{both-done, Refuses, refuses-none, refuses-test, refuses-untested, refuses-after, refuses-then}
+use Rattle.layout.specs.Regions.{within}
+use Rattle.layout.specs.Layouts.{CR, region, firstReversed, firstWrongSize, firstCollision, layoutCheck}
+use Rattle.layout.specs.Calls.{callCheck, memoryBytes}
+use Rattle.layout.proofs.Calls.{call-passed, call-rest}
+use Rattle.monitor.specs.declared.Totals.{Totals}
+use Rattle.monitor.specs.declared.Traced.{Traced}
+use Rattle.monitor.specs.declared.Traced.the-variants.{Judged}
+use Rattle.monitor.specs.Runs.{stepSize, answerSize, count, roomAfter}
+use Rattle.monitor.specs.Promises.{mostSteps, firstUnclean, traceCheck, values, tracedRow}
+use Rattle.monitor.specs.Settled.{traced-row-settled}
+use Rattle.monitor.proofs.Checks.{traced-judged, traced-refused}
+use Rattle.runfile.specs.Contents.{LAYOUT, MEMORY, TRACE, mostBytes, entries, firstFailing, fileCheck, body}
+use Rattle.runfile.specs.Segments.{segments, firstWrong, segmentCheck}
+use Rattle.runfile.specs.Promises.{fileLayout, fileMemory, fileTrace, fileTotals, bodiesCheck, judgeCheck, Judges}
+use Rattle.runfile.proofs.Entries.{sound, layout-part}
+use Rattle.runfile.proofs.Described as D
+use Rattle.demands.specs.Files as claim
+use Rattle.demands.specs.Files.{Names}
+
+-- ---- the described memory
+
+-- an address that a segment does not name is before or behind it
+beside : (b : List ℕ) (k a : ℕ) → (Names b k a → ⊥) → (a < D.from b k) ⊎ (D.till b k ≤ a)
+beside b k a f =
+    cases (ltb a (D.from b k)) (λ e. inl (ltb-true a (D.from b k) e))
+    (λ e. cases (ltb a (D.till b k))
+    (λ g. absurd (f (ltb-false a (D.from b k) e, ltb-true a (D.till b k) g)))
+    (λ g. inr (ltb-false a (D.till b k) g)))
+
+pub described-so : claim.DescribedSo
+described-so b e = record {
+  long = D.length-described b e;
+  once = λ j k a h l n m. omega (arith, D.ordered b e j k h l, n .1, m .0);
+  named = D.named b e;
+  unnamed = λ a h f. D.unnamed b e a h (λ k l. beside b k a (f k l));
+}
+
+-- ---- a file that is judged
+
+-- all its checks have passed
+record Passed (f memory room : List ℕ) : Type 0 where
+  contents : fileCheck f ≡ call.Done
+  long : length memory ≡ memoryBytes
+  layout : layoutCheck (body f LAYOUT) ≡ call.Done
+  segments : segmentCheck (body f MEMORY) ≡ call.Done
+  trace : traceCheck (fileTrace f) (length room) ≡ call.Done
+
+passed : (f memory room : List ℕ) → judgeCheck f memory room ≡ call.Done → Passed f memory room
+unfolding judgeCheck bodiesCheck
+passed f memory room e =
+    let p = both-done (fileCheck f) _ e in
+    let q = call-passed memory (body f LAYOUT) _ (p .1) in
+    let s = both-done (segmentCheck (body f MEMORY)) (traceCheck (fileTrace f) (length room)) (q .2) in
+    record { contents = p .0; long = q .0; layout = q .1; segments = s .0; trace = s .1 }
+
+pub file-is-trace : claim.FileIsTrace
+file-is-trace file memory room memory′ room′ t j =
+    let d = traced-judged (judgeCheck file memory room) t (fileTotals file) (j .answered) in
+    let p = passed file memory room (d .0) in
+    let e : callCheck (fileMemory file) (body file LAYOUT) (traceCheck (fileTrace file) (length room)) ≡ call.Done =
+    call-rest (fileMemory file) (body file LAYOUT) (traceCheck (fileTrace file) (length room)) (D.length-described (body file MEMORY) (p .segments)) (p .layout) ∙ p .trace in
+    record {
+      answered = simp (e, d .1);
+      memory-left = simp e (simp (d .0) at (j .memory-left));
+      room-left = simp e (simp (d .0) at (j .room-left));
+    }
+
+-- the checks look at the lent memory's length alone
+same-check : (f x y room : List ℕ) → length x ≡ length y → judgeCheck f x room ≡ judgeCheck f y room
+unfolding judgeCheck bodiesCheck
+same-check f x y room e =
+    ap
+    (λ (n : ℕ). andThen (fileCheck f) (pick (not (eqb n memoryBytes)) (refusedAt memorySize 0) (andThen (layoutCheck (body f LAYOUT)) (andThen (segmentCheck (body f MEMORY)) (traceCheck (body f TRACE) (length room))))))
+    e
+
+pub memory-unseen : claim.MemoryUnseen
+memory-unseen file x y room x′ room₁ y′ room₂ r q e j k =
+    let c = same-check file x y room e in
+    (
+      traced-row-settled r q (j .answered ∙ ap (λ (a : Answer). told a (values (fileTotals file))) c ∙ sym (k .answered)),
+      j .room-left ∙ ap (λ (a : Answer). lent a (roomAfter (fileLayout file) (fileTrace file) (fileMemory file) room) room) c ∙ sym (k .room-left),
+      λ t f.
+          let d = traced-judged (judgeCheck file x room) t (fileTotals file) (subst (λ (o : Traced). tracedRow o ≡ told (judgeCheck file x room) (values (fileTotals file))) f (j .answered)) in
+          (simp (d .0) at (j .memory-left)) ∙ sym (simp (sym c ∙ d .0) at (k .memory-left)),
+    )
+
+-- ---- one that is refused
+
+not-2 : ℕ → Type 0
+not-2 n = n ≢ layoutSize
+
+-- a layout of 24 bytes
+layout-not-2 : (b : List ℕ) → length b ≡ 24 → Refuses not-2 (layoutCheck b)
+unfolding layoutCheck not-2
+layout-not-2 b e =
+    refuses-untested not-2 (not (eqb (length b) 24)) layoutSize 0 _ (simp (eq-eqb (length b) 24 e))
+    (refuses-test not-2 (ltb (firstReversed b) 6) regionReversed (firstReversed b) _ (λ z. omega arith)
+    (refuses-test not-2 (ltb (firstWrongSize b) 6) regionSize (firstWrongSize b) _ (λ z. omega arith)
+    (refuses-test not-2 (within (region b CR) 0) zeroInCode 0 _ (λ z. omega arith)
+    (refuses-test not-2 (ltb (firstCollision b) 36) regionsShare 0 call.Done (λ z. omega arith) (refuses-none not-2)))))
+
+file-not-2 : (f : List ℕ) → Refuses not-2 (fileCheck f)
+unfolding fileCheck not-2
+file-not-2 f =
+    refuses-test not-2 (ltb mostBytes (length f)) fileSize 0 _ (λ z. omega arith)
+    (refuses-test not-2 (ltb (firstFailing f) entries) contents (firstFailing f) call.Done (λ z. omega arith) (refuses-none not-2))
+
+segments-not-2 : (b : List ℕ) → Refuses not-2 (segmentCheck b)
+unfolding segmentCheck not-2
+segments-not-2 b =
+    refuses-test not-2 (ltb (firstWrong b) (segments b)) segment (firstWrong b) call.Done (λ z. omega arith) (refuses-none not-2)
+
+trace-not-2 : (b : List ℕ) (room : ℕ) → Refuses not-2 (traceCheck b room)
+unfolding traceCheck not-2
+trace-not-2 b room =
+    refuses-test not-2 (not (eqb (length b % stepSize) 0) || ltb mostSteps (count b)) traceSize 0 _ (λ z. omega arith)
+    (refuses-test not-2 (ltb room (answerSize * count b)) roomSize 0 _ (λ z. omega arith)
+    (refuses-test not-2 (ltb (firstUnclean b) (count b)) stepNotZero (firstUnclean b) call.Done (λ z. omega arith) (refuses-none not-2)))
+
+length-layout : (f : List ℕ) → fileCheck f ≡ call.Done → length (body f LAYOUT) ≡ 24
+length-layout f e =
+    let s = sound f e in
+    ap length (sym (layout-part f s)) ∙ simp (length-take, length-drop) (omega (arith, s .whole))
+
+judge-not-2 : (f memory room : List ℕ) → Refuses not-2 (judgeCheck f memory room)
+unfolding judgeCheck bodiesCheck not-2
+judge-not-2 f memory room =
+    refuses-after not-2 (fileCheck f) _ (file-not-2 f) (λ e.
+    refuses-test not-2 (not (eqb (length memory) memoryBytes)) memorySize 0 _ (λ z. omega arith)
+    (refuses-then not-2 (layoutCheck (body f LAYOUT)) _ (layout-not-2 (body f LAYOUT) (length-layout f e))
+    (refuses-then not-2 (segmentCheck (body f MEMORY)) _ (segments-not-2 (body f MEMORY)) (trace-not-2 (body f TRACE) (length room)))))
+
+pub never-layout-size : claim.NeverLayoutSize
+unfolding not-2
+never-layout-size file memory room memory′ room′ r j =
+    judge-not-2 file memory room r (traced-refused (judgeCheck file memory room) r (fileTotals file) (j .answered))

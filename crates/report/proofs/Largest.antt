@@ -1,12 +1,13 @@
 -- The largest text of any file has 52,125 bytes. Assumes nothing.
-use mathlib.Core.Path.{_≡_, refl, subst}
+use mathlib.Core.Path.{_≡_, refl, ap, sym, subst, _∙_}
 use mathlib.Core.Bool.{Bool, true, false}
-use mathlib.Core.List.{List}
+use mathlib.Core.List.{List, _++_}
 use Prim.Native.Nat.{ℕ, zero, suc, _+_, _-_, _*_, _/_, _%_, _^_, _≤_, _<_}
 use native.Mathlib.Nat.{zero-add, add-zero, add-suc, suc-mul, pow-suc}
 use native.Mathlib.Omega.{arith}
 use lib.Dec.{ltb, eqb}
-use lib.ListN.{length, length-append, length-take, length-drop}
+use lib.ListN.{length, take, drop, length-append, length-take, length-drop}
+use lib.Seq.{take-all, take-at}
 use borrow.Author.Tests.{ltb-true, ltb-false}
 use Rattle.refusal.specs.Choice.{pick}
 use Rattle.refusal.specs.First.{first}
@@ -27,6 +28,7 @@ use Rattle.runfile.specs.Contents.{fileCheck, body}
 use Rattle.runfile.specs.Promises.{fileLayout, fileMemory, fileTrace, fileTotals, judgeCheck}
 use Rattle.runfile.proofs.Entries.{sound}
 use Rattle.report.specs.Text.{places, shown, cpuShown, dmaShown, line, lines, totalsLine, refusedLine, judgedText, printed, fileText}
+use Rattle.report.specs.Promises.{Writes}
 use Rattle.report.proofs.Decimal.{length-digits, length-decimal, places-most, places-twenty}
 use Rattle.report.proofs.Calls.{file-passed}
 
@@ -166,3 +168,13 @@ printed-most f memory room (Refused r) e = omega (arith, length-refused r)
 
 pub largest : (f memory room : List ℕ) → length (fileText f memory room) ≤ 52125
 largest f memory room = printed-most f memory room (judgeCheck f memory room) refl
+
+-- so a buffer of that size holds the text of any file whole: the first r bytes
+pub whole-text : (f memory room out memory′ room′ out′ : List ℕ) (r : ℕ) → Writes f memory room out memory′ room′ out′ r
+    → 52125 ≤ length out → (r ≤ length out′) × (take r out′ ≡ fileText f memory room)
+whole-text f memory room out memory′ room′ out′ r w h =
+    let text = fileText f memory room in
+    let e : out′ ≡ text ++ drop (length text) out =
+    w .out-left
+    ∙ ap (λ (l : List ℕ). l ++ drop (length text) out) (take-all (length out) text (omega (arith, largest f memory room))) in
+    (rw e (simp length-append (omega (arith, w .answered))), rw e (take-at text (drop (length text) out) r (sym (w .answered))))

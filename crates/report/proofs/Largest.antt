@@ -1,4 +1,4 @@
--- The largest text of any file has 52,125 bytes. Assumes nothing.
+-- No text of any file has over 52,125 bytes. Assumes nothing.
 use mathlib.Core.Path.{_≡_, refl, ap, sym, subst, _∙_}
 use mathlib.Core.Bool.{Bool, true, false}
 use mathlib.Core.List.{List, _++_}
@@ -90,11 +90,11 @@ more-most a (suc n) d f =
     rw (add-suc a n)
     (omega (arith, more-most a n d (λ k h. f k (omega arith)), f (a + n) (omega arith), suc-mul n (d + 9)))
 
--- 10 numbers of one digit, 90 of two, 900 of three, and the others of four
 none-most : linesMost 0 ≡ 0
 unfolding linesMost
 none-most = refl
 
+-- 10 numbers of one digit, 90 of two, 900 of three
 thousand : linesMost 1000 ≤ 11890
 thousand =
     let a : linesMost 10 ≤ linesMost 0 + 10 * 10 = more-most 0 10 1 (λ k h. places-most k 0 (omega arith)) in
@@ -102,6 +102,7 @@ thousand =
     let c : linesMost 1000 ≤ linesMost 100 + 900 * 12 = more-most 100 900 3 (λ k h. places-most k 2 (omega arith)) in
     omega (arith, a, b, c, none-most)
 
+-- and the others of four
 four-digits : (a n : ℕ) → a + n ≤ 4092 → linesMost (a + n) ≤ linesMost a + n * 13
 four-digits a n h = more-most a n 4 (λ k l. places-most k 3 (omega arith))
 

@@ -1,5 +1,5 @@
 -- The bodies of a file, on plain variables: the checks one after another, and the run. Assumes nothing.
-use mathlib.Core.Path.{_≡_, ap, sym, subst, _∙_}
+use mathlib.Core.Path.{_≡_, sym, subst, _∙_}
 use mathlib.Core.List.{List}
 use Prim.Native.Nat.{ℕ, _*_, _≤_}
 use lib.ListN.{length}
@@ -18,7 +18,7 @@ use Rattle.layout.proofs.Calls.{call-passed, admitted-good, admitted-refused}
 use Rattle.monitor.specs.declared.Traced.{Traced}
 use Rattle.monitor.specs.declared.Traced.the-variants as traced
 use Rattle.monitor.specs.Runs.{answerSize, count, memoryAfter, roomAfter, totals}
-use Rattle.monitor.specs.Promises.{traceCheck, runCheck, values, tracedRow, Fits, Runs}
+use Rattle.monitor.specs.Promises.{traceCheck, values, tracedRow, Fits, Runs}
 use Rattle.monitor.proofs.Checks.{trace-passed}
 use Rattle.monitor.proofs.Calls.{run-passes}
 use Rattle.runfile.specs.Segments.{segmentCheck, described}

@@ -120,12 +120,13 @@ sound f e =
       whole = omega (arith, t .within);
     }
 
--- its bodies, as the code takes them; entry 1 names n bytes
-module _ (f : List ℕ) (s : Sound f) (n : ℕ) (is : n ≡ size f MEMORY) where
-  pub layout-part : take (48 - contentsSize) (drop contentsSize f) ≡ body f LAYOUT
-  unfolding body begins
-  layout-part = sym (ap (λ (k : ℕ). take k (drop contentsSize f)) (s .layout))
+-- its bodies, as the code takes them
+pub layout-part : (f : List ℕ) → Sound f → take (48 - contentsSize) (drop contentsSize f) ≡ body f LAYOUT
+unfolding body begins
+layout-part f s = sym (ap (λ (k : ℕ). take k (drop contentsSize f)) (s .layout))
 
+-- entry 1 names n bytes
+module _ (f : List ℕ) (s : Sound f) (n : ℕ) (is : n ≡ size f MEMORY) where
   pub memory-part : take (48 + n - 48) (drop 48 f) ≡ body f MEMORY
   unfolding body
   memory-part =

@@ -32,7 +32,7 @@ loop-less c = search needs
 loop-again : tie.Need-loop-again Inv-loop μ-loop
 loop-again c =
     let h = c .before .loop in
-    (omega arith, length-set (h .memory) (h .i) 0 ∙ h .inv .1, ap (λ (m : List ℕ). set m (h .i) 0) (h .inv .2) ∙ fill-more (h .i) 0 _ (omega arith))
+    (omega arith, length-set (h .memory) _ _ ∙ h .inv .1, ap (λ (m : List ℕ). set m (h .i) 0) (h .inv .2) ∙ fill-more (h .i) 0 _ (omega arith))
 
 same-length : tie.Need-same-length Inv-loop μ-loop
 same-length c = search needs

@@ -78,7 +78,7 @@ returns c =
     let n = c .before .before .before .before .before .before .before .before .before .before .long-at .ensures .0 in
     let s = passed (h .file .now) _ a d in
     judged (h .file .now) _ _ _ (h .memory .now) (h .room .now) _ _ _ (checked (h .file .now) _ _ a d)
-    (layout-part (h .file .now) s _ n) (memory-part (h .file .now) s _ n) (trace-part (h .file .now) s _ n)
+    (layout-part (h .file .now) s) (memory-part (h .file .now) s _ n) (trace-part (h .file .now) s _ n)
     (c .before .before .before .before .judge-bodies .ensures)
 
 returns-2 : tie.Need-returns-2

@@ -1,12 +1,13 @@
--- The largest text of any file has 52,125 bytes. Assumes nothing.
-use mathlib.Core.Path.{_≡_, refl, subst}
+-- No text of any file has over 52,125 bytes. Assumes nothing.
+use mathlib.Core.Path.{_≡_, refl, ap, sym, subst, _∙_}
 use mathlib.Core.Bool.{Bool, true, false}
-use mathlib.Core.List.{List}
+use mathlib.Core.List.{List, _++_}
 use Prim.Native.Nat.{ℕ, zero, suc, _+_, _-_, _*_, _/_, _%_, _^_, _≤_, _<_}
 use native.Mathlib.Nat.{zero-add, add-zero, add-suc, suc-mul, pow-suc}
 use native.Mathlib.Omega.{arith}
 use lib.Dec.{ltb, eqb}
-use lib.ListN.{length, length-append, length-take, length-drop}
+use lib.ListN.{length, take, drop, length-append, length-take, length-drop}
+use lib.Seq.{take-all, take-at}
 use borrow.Author.Tests.{ltb-true, ltb-false}
 use Rattle.refusal.specs.Choice.{pick}
 use Rattle.refusal.specs.First.{first}
@@ -27,6 +28,7 @@ use Rattle.runfile.specs.Contents.{fileCheck, body}
 use Rattle.runfile.specs.Promises.{fileLayout, fileMemory, fileTrace, fileTotals, judgeCheck}
 use Rattle.runfile.proofs.Entries.{sound}
 use Rattle.report.specs.Text.{places, shown, cpuShown, dmaShown, line, lines, totalsLine, refusedLine, judgedText, printed, fileText}
+use Rattle.report.specs.Promises.{Writes}
 use Rattle.report.proofs.Decimal.{length-digits, length-decimal, places-most, places-twenty}
 use Rattle.report.proofs.Calls.{file-passed}
 
@@ -88,11 +90,11 @@ more-most a (suc n) d f =
     rw (add-suc a n)
     (omega (arith, more-most a n d (λ k h. f k (omega arith)), f (a + n) (omega arith), suc-mul n (d + 9)))
 
--- 10 numbers of one digit, 90 of two, 900 of three, and the others of four
 none-most : linesMost 0 ≡ 0
 unfolding linesMost
 none-most = refl
 
+-- 10 numbers of one digit, 90 of two, 900 of three
 thousand : linesMost 1000 ≤ 11890
 thousand =
     let a : linesMost 10 ≤ linesMost 0 + 10 * 10 = more-most 0 10 1 (λ k h. places-most k 0 (omega arith)) in
@@ -100,6 +102,7 @@ thousand =
     let c : linesMost 1000 ≤ linesMost 100 + 900 * 12 = more-most 100 900 3 (λ k h. places-most k 2 (omega arith)) in
     omega (arith, a, b, c, none-most)
 
+-- and the others of four
 four-digits : (a n : ℕ) → a + n ≤ 4092 → linesMost (a + n) ≤ linesMost a + n * 13
 four-digits a n h = more-most a n 4 (λ k l. places-most k 3 (omega arith))
 
@@ -166,3 +169,13 @@ printed-most f memory room (Refused r) e = omega (arith, length-refused r)
 
 pub largest : (f memory room : List ℕ) → length (fileText f memory room) ≤ 52125
 largest f memory room = printed-most f memory room (judgeCheck f memory room) refl
+
+-- so a buffer of that size holds the text of any file whole: the first r bytes
+pub whole-text : (f memory room out memory′ room′ out′ : List ℕ) (r : ℕ) → Writes f memory room out memory′ room′ out′ r
+    → 52125 ≤ length out → (r ≤ length out′) × (take r out′ ≡ fileText f memory room)
+whole-text f memory room out memory′ room′ out′ r w h =
+    let text = fileText f memory room in
+    let e : out′ ≡ text ++ drop (length text) out =
+    w .out-left
+    ∙ ap (λ (l : List ℕ). l ++ drop (length text) out) (take-all (length out) text (omega (arith, largest f memory room))) in
+    (rw e (simp length-append (omega (arith, w .answered))), rw e (take-at text (drop (length text) out) r (sym (w .answered))))

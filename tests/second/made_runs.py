@@ -128,8 +128,7 @@ def contents_cases() -> Iterator[Case]:
     yield from placed_cases()
     for count in (1, 2, 3):
         for places in combinations(range(3), count):
-            wrong = {2 * place: 24 + 7 * place for place in places if place}
-            yield Case(renumbered(page.FILE, {**wrong, **({0: 23} if 0 in places else {})}), f"refused 13 {places[0]}")
+            yield Case(renumbered(page.FILE, {2 * place: 7 for place in places}), f"refused 13 {places[0]}")
     for length in (1, 22, 24, 25, 47, 48, 49, 72, 500):
         yield Case(bytes(length), "refused 13 0")
         yield Case(b"\xff" * length, "refused 13 0")
@@ -254,8 +253,8 @@ def wrapped_segments() -> Iterator[Case]:
 
 # ---- Traces
 
-# Each bit of a step that has to be zero.
-ZERO_BITS = [(byte, 1 << bit) for byte, bits in ((6, (5, 6, 7)), (9, range(8)), (10, range(8)), (11, range(8))) for bit in bits]
+# Each bit of a step that has to be zero, by its byte.
+ZERO_BITS = [(6, 1 << bit) for bit in (5, 6, 7)] + [(byte, 1 << bit) for byte in (9, 10, 11) for bit in range(8)]
 
 
 def trace_cases() -> Iterator[Case]:
@@ -310,10 +309,9 @@ def longest() -> bytes:
     return filed(b"", reads([(91 * i) % 256 + 0xE000 for i in range(4_092)]))
 
 
-def many_segments(behind: bytes = b"") -> bytes:
-    """A memory body as long as can be before a trace of one step: 9,818 segments, all but the last of one byte."""
-    body = b"".join(segment(0x1000 + 2 * k - k % 2, bytes((k % 255 + 1,))) for k in range(9_817))
-    return body + (behind or segment(0xFFFD, b"\x51\x52\x53"))
+def many_segments(count: int) -> bytes:
+    """Segments of one byte, in pairs that touch."""
+    return b"".join(segment(0x1000 + 2 * k - k % 2, bytes((k % 255 + 1,))) for k in range(count))
 
 
 def large_cases() -> Iterator[Case]:
@@ -338,9 +336,9 @@ def large_memories() -> Iterator[Case]:
     yield Case(filed(segment(0x4034, contents)), JUDGED)
     yield Case(filed(segment(0x4035, contents)), "refused 14 0")
     yield Case(filed(segment(0x4034, contents, 49_101)), "refused 14 0")
-    yield Case(filed(many_segments(), reads((0xFFFD,))), JUDGED)
-    yield Case(filed(many_segments(segment(0xFFFE, b"\x51\x52\x53")), CLEAN), "refused 14 9817")
-    yield Case(filed(many_segments(b"\x51\x52\x53"), CLEAN), "refused 14 9817")
+    yield Case(filed(many_segments(9_817) + segment(0xFFFD, b"\x51\x52\x53"), reads((0xFFFD,))), JUDGED)
+    yield Case(filed(many_segments(9_817) + segment(0xFFFE, b"\x51\x52\x53"), CLEAN), "refused 14 9817")
+    yield Case(filed(many_segments(9_820) + segment(0xFFFF, b"", 1)), "refused 14 9820")
 
 
 # ---- What is read
@@ -352,7 +350,7 @@ def read_cases() -> Iterator[Case]:
     yield Case(filed(values, reads(range(0x8000, 0x8100))), JUDGED)
     yield Case(filed(values, b"".join(step_bytes(0, a, flags=READS) for a in range(0x80FF, 0x7FFF, -1))), JUDGED)
     yield Case(filed(values, b"".join(step_bytes(0, dma=a, flags=DMA) for a in range(0x8000, 0x8100))), JUDGED)
-    everywhere = range(0x0800, 0x10000, 0x03FF)
+    everywhere = (0x0000, 0x0001, *range(0x0800, 0x10000, 0x03FF), 0xFFFE, 0xFFFF)
     stores = b"".join(step_bytes(0, a, flags=WRITES, cpu_data=0xC3) for a in everywhere)
     leavers = (filed(segment(0x0800, b"\xff" * 26_000)), filed(b"", stores), filed(segment(0x9000, b"\xff" * 28_672)))
     for leaver in (*leavers, filed(segment(0x0800, b"\xff" * 26_000), UNCLEAN)):

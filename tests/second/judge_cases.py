@@ -11,7 +11,9 @@ from typing import Iterator, Optional
 import board
 import page
 import runfile
-from made_runs import LONGEST_FRAME, LONGEST_TEXT, MOST_BYTES, Case, cases, longest, stdin
+from made_files import Case
+from made_runs import LONGEST_FRAME, LONGEST_TEXT, cases, longest, stdin
+from runfile import MOST_BYTES
 
 
 def frames(given: bytes) -> Iterator[Optional[bytes]]:

@@ -11,7 +11,9 @@ from typing import Iterator, Optional
 import board
 import page
 import runfile
-from made_runs import LONGEST_FRAME, LONGEST_TEXT, MOST_BYTES, Case, cases, longest, stdin
+from made_files import Case
+from made_runs import LONGEST_FRAME, LONGEST_TEXT, cases, longest, stdin
+from runfile import MOST_BYTES
 
 
 def frames(given: bytes) -> Iterator[Optional[bytes]]:
@@ -60,7 +62,6 @@ def met(file: bytes, text: bytes) -> Iterator[str]:
         yield f"refusal {numbers[0]}"
         yield f"refusal {numbers[0]} at {numbers[1]}"
         yield f"refusal {numbers[0]} of {len(file)} bytes"
-        yield digits(numbers[1], "place")
         return
     _, steps, _, resets = rest.pop().split(" ")
     memory, = struct.unpack_from("<I", file, 12)
@@ -83,9 +84,9 @@ def least() -> dict[str, int]:
     once = [f"{by} byte {byte:02x}" for by in ("CPU", "DMA") for byte in range(256)]
     once += [f"refusal {number} of {MOST_BYTES} bytes" for number in (7, 9, 13, 14)]
     once += [f"refusal 13 of {length} bytes" for length in range(143)]
-    once += ["refusal 9 at 4091", "refusal 14 at 9817", f"judged of {MOST_BYTES} bytes", "resets of 4 digits", "place of 4 digits"]
+    once += ["refusal 9 at 4091", "refusal 14 at 9820", f"judged of {MOST_BYTES} bytes", "resets of 4 digits"]
     once += ["judged with 4092 steps and a memory body of 0 bytes", "judged with 0 steps and a memory body of 49104 bytes"]
-    once += ["judged with 0 steps and a memory body of 0 bytes"]
+    once += ["judged with 1 steps and a memory body of 49092 bytes", "judged with 0 steps and a memory body of 0 bytes"]
     return {**dict.fromkeys(often, 10), **dict.fromkeys(some, 4), **dict.fromkeys(once, 1)}
 
 

@@ -88,7 +88,7 @@ REFUSED = {
         filed(FIVE_12, "00100200 ab", UNCLEAN),
     ],
     "refused 14 1": [
-        *(filed(f"18000000 18000000 30000000 0{5 + n}000000 3{5 + n}000000 00000000", "00100100 ab" + "00" * n) for n in (1, 2, 3)),
+        *(filed(f"18000000 18000000 30000000 0{n}000000 3{n}000000 00000000", "00100100" + "ab" * (n - 4)) for n in (6, 7, 8)),
         filed(TEN_NONE, "00100100 ab 00100100 cd"),
         filed(TEN_NONE, "00100100 ab ff0f0100 cd"),
         filed(TEN_NONE, "ffff0100 ab 00000100 cd"),

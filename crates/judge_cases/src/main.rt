@@ -1,6 +1,6 @@
 // Judges the run files on standard input, one after the other, and prints of each what the program `judge` prints. A file stands behind its
 // length, a 32-bit little-endian number of at most 49,153, which is one byte more than a file may have. Memory and room are kept from file to
-// file, so that what one leaves there is not seen by the next. tests/second makes the files and works the same text out by itself.
+// file, so that it would show if one saw what another left there. tests/second makes the files and works the same text out by itself.
 use libc::STDIN_FILENO;
 use libc::STDOUT_FILENO;
 ghost use Prim.Native.Nat.{_<_, _≤_};
@@ -59,6 +59,7 @@ fn next(memory: &mut Memory, room: &mut Room) -> bool {
     if got == 4 && n <= MOST && judge(&mut file, n, memory, room) {
         return true;
     }
+    // The length is too great, or the input ends before the file does.
     io::write_all(STDOUT_FILENO, b"cut\n");
     false
 }

@@ -93,8 +93,7 @@ same-check f x y room e =
 
 pub memory-unseen : claim.MemoryUnseen
 memory-unseen file x y room x′ room₁ y′ room₂ r q e j k =
-    let c = same-check file x y room e in
-    (
+    let c = same-check file x y room e in (
       traced-row-settled r q (j .answered ∙ ap (λ (a : Answer). told a (values (fileTotals file))) c ∙ sym (k .answered)),
       j .room-left ∙ ap (λ (a : Answer). lent a (roomAfter (fileLayout file) (fileTrace file) (fileMemory file) room) room) c ∙ sym (k .room-left),
       λ t f.

@@ -4,10 +4,10 @@ use libc::STDIN_FILENO;
 use libc::STDOUT_FILENO;
 
 fn main() {
-    let mut file = [0u8; 49153];
-    let mut memory = [0u8; 65536];
-    let mut room = [0u8; 16384];
-    let mut out = [0u8; 52125];
+    let mut file = [0u8; runfile::MOST + 1];
+    let mut memory = [0u8; layout::MEMORY];
+    let mut room = [0u8; monitor::ANSWER * monitor::MOST_STEPS];
+    let mut out = [0u8; report::LONGEST];
     let n = io::read_full(STDIN_FILENO, &mut file);
     let k = report::text(&file[0..n], &mut memory, &mut room, &mut out);
     io::write_all(STDOUT_FILENO, &out[0..k]);

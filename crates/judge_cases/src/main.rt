@@ -6,15 +6,15 @@ use libc::STDOUT_FILENO;
 ghost use Prim.Native.Nat.{_<_, _≤_};
 ghost use lib.ListN.{length};
 
-type Memory = [u8; 65536];
+type Memory = [u8; layout::MEMORY];
 
-type Room = [u8; 16384];
+type Room = [u8; monitor::ANSWER * monitor::MOST_STEPS];
 
-const MOST: usize = 49_153;
+const MOST: usize = runfile::MOST + 1;
 
 fn fill(memory: &mut Memory) {
     let mut a = 0;
-    while a < 65536 {
+    while a < layout::MEMORY {
         memory[a] = ((7 * a + a / 256) % 256) as u8;
         a += 1;
     }
@@ -31,7 +31,7 @@ fn number(head: &[u8; 4]) -> usize {
 }
 
 fn print(file: &[u8], memory: &mut Memory, room: &mut Room) {
-    let mut out = [0u8; 52125];
+    let mut out = [0u8; report::LONGEST];
     let k = report::text(file, memory, room, &mut out);
     io::write_all(STDOUT_FILENO, &out[0..k]);
 }
@@ -50,7 +50,7 @@ fn judge(file: &mut [u8], n: usize, memory: &mut Memory, room: &mut Room) -> boo
 // Judges the next file, and tells whether there was one.
 fn next(memory: &mut Memory, room: &mut Room) -> bool {
     let mut head = [0u8; 4];
-    let mut file = [0u8; 49153];
+    let mut file = [0u8; MOST];
     let got = io::read_full(STDIN_FILENO, &mut head);
     if got == 0 {
         return false;
@@ -73,8 +73,8 @@ fn all(memory: &mut Memory, room: &mut Room) {
 }
 
 fn main() {
-    let mut memory = [0u8; 65536];
-    let mut room = [0u8; 16384];
+    let mut memory = [0u8; layout::MEMORY];
+    let mut room = [0u8; monitor::ANSWER * monitor::MOST_STEPS];
     fill(&mut memory);
     all(&mut memory, &mut room);
 }

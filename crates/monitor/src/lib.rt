@@ -49,9 +49,10 @@ struct Judged {
 
 const STEP: usize = 12;
 
-const ANSWER: usize = 4;
+// The answer bytes of a step, and the most steps of a trace.
+pub const ANSWER: usize = 4;
 
-const MOST_STEPS: usize = 4096;
+pub const MOST_STEPS: usize = 4096;
 
 // The byte at an address, or 0 where it is not exposed.
 fn peek(on: bool, a: u16, memory: &[u8]) -> u8

@@ -170,6 +170,9 @@ printed-most f memory room (Refused r) e = omega (arith, length-refused r)
 pub largest : (f memory room : List ℕ) → length (fileText f memory room) ≤ 52125
 largest f memory room = printed-most f memory room (judgeCheck f memory room) refl
 
+pub fits : (f memory room out memory′ room′ out′ : List ℕ) (r : ℕ) → Writes f memory room out memory′ room′ out′ r → r ≤ 52125
+fits f memory room out memory′ room′ out′ r w = omega (arith, w .answered, largest f memory room)
+
 -- so a buffer of that size holds the text of any file whole: the first r bytes
 pub whole-text : (f memory room out memory′ room′ out′ : List ℕ) (r : ℕ) → Writes f memory room out memory′ room′ out′ r
     → 52125 ≤ length out → (r ≤ length out′) × (take r out′ ≡ fileText f memory room)

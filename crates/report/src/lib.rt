@@ -14,10 +14,8 @@ ghost use Rattle.report.specs.Text as T;
 ghost use Rattle.report.specs.Writing as W;
 ghost use Rattle.report.specs.Promises as P;
 
-// The length of the longest text of any file.
+// No text of a file is longer.
 pub const LONGEST: usize = 52_125;
-
-const ANSWER: usize = 4;
 
 fn put_byte(out: &mut [u8], at: usize, b: u8) -> usize
     requires { ⌜ at ≤ 1000000 ⌝ }
@@ -91,7 +89,7 @@ fn answer_at(room: &[u8], k: usize) -> StepAnswer
     requires { ⌜ 4 * k + 4 ≤ length (now room) ⌝ }
     ensures { λ r. ⌜ r ≡ W.answerAt (now (room .entry)) k ⌝ }
 {
-    let p = ANSWER * k;
+    let p = monitor::ANSWER * k;
     StepAnswer {
         cause: room[p],
         exposed: room[p + 1],

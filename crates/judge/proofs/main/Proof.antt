@@ -1,15 +1,8 @@
 -- `judge::main` is safe and ends. Assumes nothing.
-use mathlib.Core.List.{List}
-use Prim.Native.Nat.{ℕ, _≤_}
-use native.Mathlib.Omega.{arith}
 use borrow.Author.Needs.{needs}
-use Rattle.report.specs.Promises.{Writes}
-use Rattle.report.proofs.Largest.{largest}
+use Rattle.report.proofs.Largest.{fits}
 use Rattle.judge.proofs.main.Statement.{statement}
 use Rattle.judge.proofs.main.Tie as tie
-
-fits : (file memory room out memory′ room′ out′ : List ℕ) (k : ℕ) → Writes file memory room out memory′ room′ out′ k → k ≤ 52125
-fits file memory room out memory′ room′ out′ k w = omega (arith, w .answered, largest file memory room)
 
 slice-aggregate-read-full : tie.Need-slice-aggregate-read-full
 slice-aggregate-read-full c = search needs

@@ -1,8 +1,10 @@
 -- Steps to which no rule, or none on an access, applies. Assumes nothing.
-use mathlib.Core.Path.{_≡_}
-use mathlib.Core.Bool.{false, not, _&&_, _||_, and-false}
+use mathlib.Core.Path.{_≡_, refl}
+use mathlib.Core.Bool.{Bool, true, false, not, _&&_, _||_, and-false, false≢true}
+use lib.Dec.{eqb}
+use borrow.Author.Tests.{not-true}
 use Rattle.refusal.specs.First.{first}
-use Rattle.refusal.proofs.Tests.{neither}
+use Rattle.refusal.proofs.Tests.{both, neither}
 use Rattle.layout.specs.declared.Layout.{Layout}
 use Rattle.layout.specs.Regions.{within, outside}
 use Rattle.rules.specs.declared.Step.{Step}
@@ -10,9 +12,13 @@ use Rattle.rules.specs.declared.Monitor.{Monitor}
 use Rattle.rules.specs.declared.Broken.{Broken}
 use Rattle.rules.specs.Rules.{cpuWrites, dmaWrites, rule1, rule2, rule3, rule4, rule5, rule6, rule7, rule8, rule9, broken, lowest}
 
+none-of : (b : Broken) → b .r1 ≡ false → b .r2 ≡ false → b .r3 ≡ false → b .r4 ≡ false → b .r5 ≡ false → b .r6 ≡ false → b .r7 ≡ false
+    → b .r8 ≡ false → b .r9 ≡ false → b .r10 ≡ false → lowest b ≡ 0
+unfolding first
+none-of b e1 e2 e3 e4 e5 e6 e7 e8 e9 e10 = simp (e1, e2, e3, e4, e5, e6, e7, e8, e9, e10)
+
 pub none-lowest : (b : Broken)
     → (b .r1 || b .r2 || b .r3 || b .r4 || b .r5 || b .r6 || b .r7 || b .r8 || b .r9 || b .r10) ≡ false → lowest b ≡ 0
-unfolding first
 none-lowest b e =
     let e10 = neither _ (b .r10) e in
     let e9 = neither _ (b .r9) (e10 .0) in
@@ -23,7 +29,7 @@ none-lowest b e =
     let e4 = neither _ (b .r4) (e5 .0) in
     let e3 = neither _ (b .r3) (e4 .0) in
     let e2 = neither (b .r1) (b .r2) (e3 .0) in
-    simp (e2 .0, e2 .1, e3 .1, e4 .1, e5 .1, e6 .1, e7 .1, e8 .1, e9 .1, e10 .1)
+    none-of b (e2 .0) (e2 .1) (e3 .1) (e4 .1) (e5 .1) (e6 .1) (e7 .1) (e8 .1) (e9 .1) (e10 .1)
 
 -- with PC and last PC outside CR, none on the way in or out
 pub pc-none : (l : Layout) (m : Monitor) (s : Step) → within (l .cr) (s .pc) ≡ false → within (l .cr) (m .last) ≡ false
@@ -62,3 +68,32 @@ apart-lowest l m s e =
     let d₂ = neither (within (l .kr) (s .dma) || within (l .xs) (s .dma)) (within (l .ctr) (s .dma)) (d .1) in
     let d₁ = neither (within (l .kr) (s .dma)) (within (l .xs) (s .dma)) (d₂ .0) in
     simp (p .0, p .1, c₁ .0, c₁ .1, c₂ .1, d₁ .0, d₁ .1, d₂ .1, and-false)
+
+-- nor with PC in CR as they allow
+came : (b c : Bool) → (b || c) ≡ true → (not b && true && not c) ≡ false
+came true c e = refl
+came false true e = refl
+came false false e = absurd (false≢true e)
+
+lawful : (w x y z : Bool) → (not w || (x || y || z)) ≡ true → (true && w && (not x && not y && not z)) ≡ false
+lawful false x y z e = refl
+lawful true true y z e = refl
+lawful true false true z e = refl
+lawful true false false true e = refl
+lawful true false false false e = absurd (false≢true e)
+
+pub visit-lowest : (l : Layout) (m : Monitor) (s : Step)
+    → (within (l .cr) (s .pc) && (within (l .cr) (m .last) || eqb (s .pc) (l .cr .lo))
+    && not (s .interrupt || s .active)
+    && (not (s .writes) || (within (l .xs) (s .cpu) || within (l .mr) (s .cpu) || within (l .ctr) (s .cpu))))
+    ≡ true
+    → lowest (broken l m s) ≡ 0
+unfolding first
+visit-lowest l m s e =
+    let w = both (within (l .cr) (s .pc) && (within (l .cr) (m .last) || eqb (s .pc) (l .cr .lo)) && not (s .interrupt || s .active)) _ e in
+    let q = both (within (l .cr) (s .pc) && (within (l .cr) (m .last) || eqb (s .pc) (l .cr .lo))) _ (w .0) in
+    let p = both (within (l .cr) (s .pc)) (within (l .cr) (m .last) || eqb (s .pc) (l .cr .lo)) (q .0) in
+    let n = neither (s .interrupt) (s .active) (not-true _ (q .1)) in
+    let r3 : rule3 l m s ≡ false = simp (p .0) (came (within (l .cr) (m .last)) (eqb (s .pc) (l .cr .lo)) (p .1)) in
+    let r6 : rule6 l s ≡ false = simp (p .0) (lawful (s .writes) (within (l .xs) (s .cpu)) (within (l .mr) (s .cpu)) (within (l .ctr) (s .cpu)) (w .1)) in
+    none-of (broken l m s) (simp (p .0)) (simp (p .0, and-false)) (simp (r3, and-false)) (simp (n .0, and-false)) (simp (p .0)) (simp (r6, and-false)) (simp (n .1)) (simp (n .1)) (simp (n .1, and-false)) (simp (p .0, n .1, and-false))

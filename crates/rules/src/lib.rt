@@ -2,6 +2,7 @@
 use layout::Layout;
 ghost use mathlib.Core.Path.{_≡_};
 ghost use mathlib.Core.Bool.{not, _&&_, _||_};
+ghost use lib.Dec.{eqb};
 ghost use Rattle.layout.specs.Regions.{within, outside};
 ghost use Rattle.rules.specs.Steps as S;
 ghost use Rattle.rules.specs.Rules as R;
@@ -239,6 +240,19 @@ fn apart(l: Layout, m: Monitor, s: Step) -> bool
     !(code | cpu | dma)
 }
 
+// PC in CR as the rules allow: it came from CR or enters at the lowest address, nothing interrupts, the DMA rests, and a write is in XS,
+// MR or CTR. Most other steps are so.
+fn visits(l: Layout, m: Monitor, s: Step) -> bool
+    ensures { λ r. ⌜ r
+        ≡ (within (l .cr) (s .pc) && (within (l .cr) (m .last) || eqb (s .pc) (l .cr .lo))
+        && not (s .interrupt || s .active)
+        && (not (s .writes) || (within (l .xs) (s .cpu) || within (l .mr) (s .cpu) || within (l .ctr) (s .cpu)))) ⌝ }
+{
+    let came = l.cr.holds(m.last) | (s.pc == l.cr.lo);
+    let lawful = l.xs.holds(s.cpu) | l.mr.holds(s.cpu) | l.ctr.holds(s.cpu);
+    l.cr.holds(s.pc) & came & !(s.interrupt | s.active) & (!s.writes | lawful)
+}
+
 // Why the step resets, and 0 if it does not.
 pub fn cause(l: Layout, m: Monitor, s: Step) -> u8
     ensures { λ r. ⌜ r ≡ R.cause l m s ⌝ }
@@ -247,6 +261,9 @@ pub fn cause(l: Layout, m: Monitor, s: Step) -> u8
         return HELD;
     }
     if apart(l, m, s) {
+        return 0;
+    }
+    if visits(l, m, s) {
         return 0;
     }
     lowest(breaks(l, m, s))

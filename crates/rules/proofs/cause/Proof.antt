@@ -3,7 +3,7 @@ use mathlib.Core.Path.{sym, _∙_}
 use borrow.Author.Needs.{needs}
 use borrow.Author.Tests.{not-true}
 use Rattle.rules.specs.Rules.{cause}
-use Rattle.rules.proofs.None.{apart-lowest}
+use Rattle.rules.proofs.None.{apart-lowest, visit-lowest}
 use Rattle.rules.proofs.cause.Statement.{statement}
 use Rattle.rules.proofs.cause.Tie as tie
 
@@ -20,15 +20,25 @@ returns-2 c =
     let h = c .before .before .before .before .before .args in
     simp (c .before .before .if1 .left) (sym (apart-lowest (h .l) (h .m) (h .s) (not-true _ (sym (c .before .apart .ensures) ∙ c .if2 .taken))))
 
+visits-requires : tie.Need-visits-requires
+visits-requires c κs = search needs
+
+returns-3 : tie.Need-returns-3
+unfolding cause
+returns-3 c =
+    let h = c .before .before .before .before .before .before .before .args in
+    simp (c .before .before .before .before .if1 .left) (sym (visit-lowest (h .l) (h .m) (h .s) (sym (c .before .visits .ensures) ∙ c .if3 .taken)))
+
 breaks-requires : tie.Need-breaks-requires
 breaks-requires c κs = search needs
 
 lowest-requires : tie.Need-lowest-requires
 lowest-requires c κs = search needs
 
-returns-3 : tie.Need-returns-3
+returns-4 : tie.Need-returns-4
 unfolding cause
-returns-3 c = simp (c .lowest .ensures, c .before .breaks .ensures, c .before .before .before .before .if1 .left)
+returns-4 c = simp (c .lowest .ensures, c .before .breaks .ensures, c .before .before .before .before .before .before .if1 .left)
 
 pub cause-spec : {M : Type 1} → statement M
-cause-spec = tie.close (tie.spec returns apart-requires returns-2 breaks-requires lowest-requires returns-3)
+cause-spec =
+    tie.close (tie.spec returns apart-requires returns-2 visits-requires returns-3 breaks-requires lowest-requires returns-4)

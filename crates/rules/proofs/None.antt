@@ -1,4 +1,4 @@
--- Steps to which no rule, or none on an access, applies. Assumes nothing.
+-- Steps to which no rule applies. Assumes nothing.
 use mathlib.Core.Path.{_≡_, refl}
 use mathlib.Core.Bool.{Bool, true, false, not, _&&_, _||_, and-false, false≢true}
 use lib.Dec.{eqb}
@@ -6,50 +6,16 @@ use borrow.Author.Tests.{not-true}
 use Rattle.refusal.specs.First.{first}
 use Rattle.refusal.proofs.Tests.{both, neither}
 use Rattle.layout.specs.declared.Layout.{Layout}
-use Rattle.layout.specs.Regions.{within, outside}
+use Rattle.layout.specs.Regions.{within}
 use Rattle.rules.specs.declared.Step.{Step}
 use Rattle.rules.specs.declared.Monitor.{Monitor}
 use Rattle.rules.specs.declared.Broken.{Broken}
-use Rattle.rules.specs.Rules.{cpuWrites, dmaWrites, rule1, rule2, rule3, rule4, rule5, rule6, rule7, rule8, rule9, broken, lowest}
+use Rattle.rules.specs.Rules.{rule3, rule6, broken, lowest}
 
 none-of : (b : Broken) → b .r1 ≡ false → b .r2 ≡ false → b .r3 ≡ false → b .r4 ≡ false → b .r5 ≡ false → b .r6 ≡ false → b .r7 ≡ false
     → b .r8 ≡ false → b .r9 ≡ false → b .r10 ≡ false → lowest b ≡ 0
 unfolding first
 none-of b e1 e2 e3 e4 e5 e6 e7 e8 e9 e10 = simp (e1, e2, e3, e4, e5, e6, e7, e8, e9, e10)
-
-pub none-lowest : (b : Broken)
-    → (b .r1 || b .r2 || b .r3 || b .r4 || b .r5 || b .r6 || b .r7 || b .r8 || b .r9 || b .r10) ≡ false → lowest b ≡ 0
-none-lowest b e =
-    let e10 = neither _ (b .r10) e in
-    let e9 = neither _ (b .r9) (e10 .0) in
-    let e8 = neither _ (b .r8) (e9 .0) in
-    let e7 = neither _ (b .r7) (e8 .0) in
-    let e6 = neither _ (b .r6) (e7 .0) in
-    let e5 = neither _ (b .r5) (e6 .0) in
-    let e4 = neither _ (b .r4) (e5 .0) in
-    let e3 = neither _ (b .r3) (e4 .0) in
-    let e2 = neither (b .r1) (b .r2) (e3 .0) in
-    none-of b (e2 .0) (e2 .1) (e3 .1) (e4 .1) (e5 .1) (e6 .1) (e7 .1) (e8 .1) (e9 .1) (e10 .1)
-
--- with PC and last PC outside CR, none on the way in or out
-pub pc-none : (l : Layout) (m : Monitor) (s : Step) → within (l .cr) (s .pc) ≡ false → within (l .cr) (m .last) ≡ false
-    → (false ≡ (not (m .held) && rule2 l m s)) × (false ≡ (not (m .held) && rule3 l m s)) × (false ≡ (not (m .held) && rule4 l s))
-pc-none l m s e f = (simp (f, and-false), simp (e, and-false), simp (e, and-false))
-
--- without an access of the CPU, no rule on it
-pub cpu-none : (l : Layout) (m : Monitor) (s : Step) → (s .reads || s .writes) ≡ false
-    → (false ≡ rule1 l s)
-    × (false ≡ rule5 l s)
-    × (false ≡ (not (m .held) && rule6 l s))
-    × (false ≡ (outside (l .cr) (s .pc) && cpuWrites (l .ctr) s))
-cpu-none l m s e =
-    let n = neither (s .reads) (s .writes) e in
-    (simp (n .0, and-false), simp (n .0, n .1, and-false), simp (n .1, and-false), simp (n .1, and-false))
-
--- and the same of the DMA
-pub dma-none : (l : Layout) (m : Monitor) (s : Step) → s .active ≡ false
-    → (false ≡ rule7 l s) × (false ≡ rule8 l s) × (false ≡ (not (m .held) && rule9 l s)) × (false ≡ dmaWrites (l .ctr) s)
-dma-none l m s e = (simp e, simp e, simp (e, and-false), simp (e, and-false))
 
 -- with PC and last PC outside CR, and the accesses outside KR, XS and CTR, no rule at all
 pub apart-lowest : (l : Layout) (m : Monitor) (s : Step)

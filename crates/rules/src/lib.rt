@@ -3,7 +3,7 @@ use layout::Layout;
 ghost use mathlib.Core.Path.{_≡_};
 ghost use mathlib.Core.Bool.{not, _&&_, _||_};
 ghost use lib.Dec.{eqb};
-ghost use Rattle.layout.specs.Regions.{within, outside};
+ghost use Rattle.layout.specs.Regions.{within};
 ghost use Rattle.rules.specs.Steps as S;
 ghost use Rattle.rules.specs.Rules as R;
 
@@ -41,27 +41,6 @@ struct Broken {
     r10: bool,
 }
 
-// The same, of the rules on the PC, on the CPU's access and on the DMA's.
-struct PcRules {
-    r2: bool,
-    r3: bool,
-    r4: bool,
-}
-
-struct CpuRules {
-    r1: bool,
-    r5: bool,
-    r6: bool,
-    r10: bool,
-}
-
-struct DmaRules {
-    r7: bool,
-    r8: bool,
-    r9: bool,
-    r10: bool,
-}
-
 const HELD: u8 = 15;
 
 // The step that 12 bytes tell.
@@ -90,110 +69,36 @@ pub fn clean(b: [u8; 12]) -> bool
     (b[6] < 32) & (b[9] == 0) & (b[10] == 0) & (b[11] == 0)
 }
 
-// The rules on the way into CR and out of it, and on interrupts there. Most steps stay outside.
-fn pc_rules(l: Layout, m: Monitor, s: Step) -> PcRules
-    ensures { λ r. ⌜ (r .r2 ≡ (not (m .held) && R.rule2 l m s))
-        × (r .r3 ≡ (not (m .held) && R.rule3 l m s))
-        × (r .r4 ≡ (not (m .held) && R.rule4 l s)) ⌝ }
-{
-    let pc_cr = l.cr.holds(s.pc);
-    let last_cr = l.cr.holds(m.last);
-    if !(pc_cr | last_cr) {
-        return PcRules {
-            r2: false,
-            r3: false,
-            r4: false,
-        };
-    }
-    PcRules {
-        r2: !m.held & (last_cr & (m.last != l.cr.hi) & !pc_cr),
-        r3: !m.held & (!last_cr & pc_cr & (s.pc != l.cr.lo)),
-        r4: !m.held & (s.interrupt & pc_cr),
-    }
-}
-
-// The rules on the CPU's access. Most steps have none.
-fn cpu_rules(l: Layout, m: Monitor, s: Step) -> CpuRules
-    ensures { λ r. ⌜ (r .r1 ≡ R.rule1 l s)
-        × (r .r5 ≡ R.rule5 l s)
-        × (r .r6 ≡ (not (m .held) && R.rule6 l s))
-        × (r .r10 ≡ (outside (l .cr) (s .pc) && R.cpuWrites (l .ctr) s)) ⌝ }
-{
-    if !(s.reads | s.writes) {
-        return CpuRules {
-            r1: false,
-            r5: false,
-            r6: false,
-            r10: false,
-        };
-    }
-    let pc_cr = l.cr.holds(s.pc);
-    let kr = l.kr.holds(s.cpu);
-    let xs = l.xs.holds(s.cpu);
-    let mr = l.mr.holds(s.cpu);
-    let ctr = l.ctr.holds(s.cpu);
-    CpuRules {
-        r1: !pc_cr & (s.reads & kr),
-        r5: !pc_cr & ((s.reads & xs) | (s.writes & xs)),
-        r6: !m.held & (pc_cr & s.writes & (!xs & !mr & !ctr)),
-        r10: !pc_cr & (s.writes & ctr),
-    }
-}
-
-// The rules on the DMA's access.
-fn dma_rules(l: Layout, m: Monitor, s: Step) -> DmaRules
-    ensures { λ r. ⌜ (r .r7 ≡ R.rule7 l s)
-        × (r .r8 ≡ R.rule8 l s)
-        × (r .r9 ≡ (not (m .held) && R.rule9 l s))
-        × (r .r10 ≡ R.dmaWrites (l .ctr) s) ⌝ }
-{
-    if !s.active {
-        return DmaRules {
-            r7: false,
-            r8: false,
-            r9: false,
-            r10: false,
-        };
-    }
-    let pc_cr = l.cr.holds(s.pc);
-    let kr = l.kr.holds(s.dma);
-    let xs = l.xs.holds(s.dma);
-    let ctr = l.ctr.holds(s.dma);
-    DmaRules {
-        r7: s.active & kr,
-        r8: s.active & xs,
-        r9: !m.held & (s.active & pc_cr),
-        r10: s.stores & (s.active & ctr),
-    }
-}
-
 fn breaks(l: Layout, m: Monitor, s: Step) -> Broken
     ensures { λ r. ⌜ r ≡ R.broken l m s ⌝ }
 {
-    let pc = pc_rules(l, m, s);
-    let cpu = cpu_rules(l, m, s);
-    let dma = dma_rules(l, m, s);
+    let code = l.cr.holds(s.pc);
+    let came = l.cr.holds(m.last);
+    let cpu_kr = l.kr.holds(s.cpu);
+    let cpu_xs = l.xs.holds(s.cpu);
+    let cpu_mr = l.mr.holds(s.cpu);
+    let cpu_ctr = l.ctr.holds(s.cpu);
+    let dma_kr = l.kr.holds(s.dma);
+    let dma_xs = l.xs.holds(s.dma);
+    let dma_ctr = l.ctr.holds(s.dma);
     Broken {
-        r1: cpu.r1,
-        r2: pc.r2,
-        r3: pc.r3,
-        r4: pc.r4,
-        r5: cpu.r5,
-        r6: cpu.r6,
-        r7: dma.r7,
-        r8: dma.r8,
-        r9: dma.r9,
-        r10: cpu.r10 | dma.r10,
+        r1: !code & (s.reads & cpu_kr),
+        r2: !m.held & (came & (m.last != l.cr.hi) & !code),
+        r3: !m.held & (!came & code & (s.pc != l.cr.lo)),
+        r4: !m.held & (s.interrupt & code),
+        r5: !code & ((s.reads & cpu_xs) | (s.writes & cpu_xs)),
+        r6: !m.held & (code & s.writes & (!cpu_xs & !cpu_mr & !cpu_ctr)),
+        r7: s.active & dma_kr,
+        r8: s.active & dma_xs,
+        r9: !m.held & (s.active & code),
+        r10: (!code & (s.writes & cpu_ctr)) | (s.stores & (s.active & dma_ctr)),
     }
 }
 
-// The lowest rule of the ten, and 0 if none applies. Most steps break none, so that is asked first.
+// The lowest rule of the ten, and 0 if none applies.
 fn lowest(b: Broken) -> u8
     ensures { λ r. ⌜ r ≡ R.lowest b ⌝ }
 {
-    if !(b.r1 | b.r2 | b.r3 | b.r4 | b.r5 | b.r6 | b.r7 | b.r8 | b.r9 | b.r10) {
-        return 0;
-    }
     if b.r1 {
         return 1;
     }

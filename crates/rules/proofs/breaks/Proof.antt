@@ -3,21 +3,49 @@ use borrow.Author.Needs.{needs}
 use Rattle.rules.proofs.breaks.Statement.{statement}
 use Rattle.rules.proofs.breaks.Tie as tie
 
-pc-rules-requires : tie.Need-pc-rules-requires
-pc-rules-requires c κs = search needs
+holds-requires : tie.Need-holds-requires
+holds-requires c κs = search needs
 
-cpu-rules-requires : tie.Need-cpu-rules-requires
-cpu-rules-requires c κs = search needs
+holds-requires-2 : tie.Need-holds-requires-2
+holds-requires-2 c κs = search needs
 
-dma-rules-requires : tie.Need-dma-rules-requires
-dma-rules-requires c κs = search needs
+holds-requires-3 : tie.Need-holds-requires-3
+holds-requires-3 c κs = search needs
+
+holds-requires-4 : tie.Need-holds-requires-4
+holds-requires-4 c κs = search needs
+
+holds-requires-5 : tie.Need-holds-requires-5
+holds-requires-5 c κs = search needs
+
+holds-requires-6 : tie.Need-holds-requires-6
+holds-requires-6 c κs = search needs
+
+holds-requires-7 : tie.Need-holds-requires-7
+holds-requires-7 c κs = search needs
+
+holds-requires-8 : tie.Need-holds-requires-8
+holds-requires-8 c κs = search needs
+
+holds-requires-9 : tie.Need-holds-requires-9
+holds-requires-9 c κs = search needs
 
 returns : tie.Need-returns
 returns c =
-    let pc = c .before .before .before .before .pc-rules .ensures in
-    let cpu = c .before .before .before .cpu-rules .ensures in
-    let dma = c .before .before .dma-rules .ensures in
-    simp (pc .0, pc .1, pc .2, cpu .0, cpu .1, cpu .2, cpu .3, dma .0, dma .1, dma .2, dma .3)
+    let x = c .before .before .before .before .before .before .before .before .before .before .before .before .before .before .before .before .before .before .before .before in
+    simp (x .holds9 .ensures, x .before .holds8 .ensures, x .before .before .holds7 .ensures, x .before .before .before .holds6 .ensures, x .before .before .before .before .holds5 .ensures, x .before .before .before .before .before .holds4 .ensures, x .before .before .before .before .before .before .holds3 .ensures, x .before .before .before .before .before .before .before .holds2 .ensures, x .before .before .before .before .before .before .before .before .holds .ensures)
 
 pub breaks-spec : {M : Type 1} → statement M
-breaks-spec = tie.close (tie.spec pc-rules-requires cpu-rules-requires dma-rules-requires returns)
+breaks-spec =
+    tie.close
+    (tie.spec
+    holds-requires
+    holds-requires-2
+    holds-requires-3
+    holds-requires-4
+    holds-requires-5
+    holds-requires-6
+    holds-requires-7
+    holds-requires-8
+    holds-requires-9
+    returns)

@@ -15,11 +15,11 @@ use Rattle.refusal.specs.declared.Refusal.{Refusal}
 use Rattle.refusal.specs.declared.Answer.{Answer}
 use Rattle.refusal.specs.declared.Answer.the-variants as call
 use Rattle.refusal.proofs.Tests.{cases}
-use Rattle.refusal.proofs.Order.{both-done, Refuses, refuses-none, refuses-test, refuses-untested, refuses-after, refuses-then}
+use Rattle.refusal.proofs.Order.{Refuses, refuses-none, refuses-test, refuses-untested, refuses-after, refuses-then}
 use Rattle.layout.specs.Regions.{within}
 use Rattle.layout.specs.Layouts.{CR, region, firstReversed, firstWrongSize, firstCollision, layoutCheck}
 use Rattle.layout.specs.Calls.{callCheck, memoryBytes}
-use Rattle.layout.proofs.Calls.{call-passed, call-rest}
+use Rattle.layout.proofs.Calls.{call-rest}
 use Rattle.monitor.specs.declared.Totals.{Totals}
 use Rattle.monitor.specs.declared.Traced.{Traced}
 use Rattle.monitor.specs.declared.Traced.the-variants.{Judged}
@@ -31,6 +31,7 @@ use Rattle.runfile.specs.Contents.{LAYOUT, MEMORY, TRACE, mostBytes, entries, f
 use Rattle.runfile.specs.Segments.{segments, firstWrong, segmentCheck}
 use Rattle.runfile.specs.Promises.{fileLayout, fileMemory, fileTrace, fileTotals, bodiesCheck, judgeCheck, Judges}
 use Rattle.runfile.proofs.Entries.{sound, layout-part}
+use Rattle.runfile.proofs.Files.{admitted}
 use Rattle.runfile.proofs.Described as D
 use Rattle.demands.specs.Files as claim
 use Rattle.demands.specs.Files.{Names}
@@ -55,26 +56,10 @@ described-so b e = record {
 
 -- ---- a file that is judged
 
--- all its checks have passed
-record Passed (f memory room : List ℕ) : Type 0 where
-  contents : fileCheck f ≡ call.Done
-  long : length memory ≡ memoryBytes
-  layout : layoutCheck (body f LAYOUT) ≡ call.Done
-  segments : segmentCheck (body f MEMORY) ≡ call.Done
-  trace : traceCheck (fileTrace f) (length room) ≡ call.Done
-
-passed : (f memory room : List ℕ) → judgeCheck f memory room ≡ call.Done → Passed f memory room
-unfolding judgeCheck bodiesCheck
-passed f memory room e =
-    let p = both-done (fileCheck f) _ e in
-    let q = call-passed memory (body f LAYOUT) _ (p .1) in
-    let s = both-done (segmentCheck (body f MEMORY)) (traceCheck (fileTrace f) (length room)) (q .2) in
-    record { contents = p .0; long = q .0; layout = q .1; segments = s .0; trace = s .1 }
-
 pub file-is-trace : claim.FileIsTrace
 file-is-trace file memory room memory′ room′ t j =
     let d = traced-judged (judgeCheck file memory room) t (fileTotals file) (j .answered) in
-    let p = passed file memory room (d .0) in
+    let p = admitted file memory room (d .0) in
     let e : callCheck (fileMemory file) (body file LAYOUT) (traceCheck (fileTrace file) (length room)) ≡ call.Done =
     call-rest (fileMemory file) (body file LAYOUT) (traceCheck (fileTrace file) (length room)) (D.length-described (body file MEMORY) (p .segments)) (p .layout) ∙ p .trace in
     record {

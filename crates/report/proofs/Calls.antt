@@ -4,44 +4,30 @@ use mathlib.Core.List.{List}
 use Prim.Native.Nat.{ℕ}
 use native.Mathlib.Omega.{arith}
 use lib.ListN.{length}
-use Rattle.refusal.specs.Answers.{andThen, told}
+use Rattle.refusal.specs.Answers.{told}
 use Rattle.refusal.specs.declared.Answer.{Answer}
 use Rattle.refusal.specs.declared.Answer.the-variants as call
-use Rattle.refusal.proofs.Order.{both-done}
-use Rattle.layout.proofs.Calls.{call-passed}
 use Rattle.monitor.specs.declared.Traced.{Traced}
 use Rattle.monitor.specs.declared.Traced.the-variants as traced
-use Rattle.monitor.specs.Promises.{traceCheck, values, tracedRow}
+use Rattle.monitor.specs.Promises.{values, tracedRow}
 use Rattle.monitor.specs.Settled.{traced-row-settled}
-use Rattle.monitor.proofs.Checks.{Fitting, trace-passed}
-use Rattle.runfile.specs.Contents.{LAYOUT, MEMORY, fileCheck, body}
-use Rattle.runfile.specs.Segments.{segmentCheck}
-use Rattle.runfile.specs.Promises.{fileLayout, fileMemory, fileTrace, fileTotals, bodiesCheck, judgeCheck, Judges}
+use Rattle.monitor.proofs.Checks.{trace-passed}
+use Rattle.runfile.specs.Promises.{fileLayout, fileMemory, fileTrace, fileTotals, judgeCheck, Judges}
+use Rattle.runfile.proofs.Files.{admitted}
 use Rattle.report.specs.Text.{fileText}
 use Rattle.report.specs.Writing.{Wrote, textOf, Tellable}
 use Rattle.report.specs.Promises.{Writes}
 use Rattle.report.proofs.Lay.{cut}
 use Rattle.report.proofs.Laws.{run-text}
 
--- a file that is judged has passed both checks
-pub file-passed : (f memory room : List ℕ) → judgeCheck f memory room ≡ call.Done
-    → (fileCheck f ≡ call.Done) × Fitting (fileTrace f) (length room)
-unfolding judgeCheck bodiesCheck
-file-passed f memory room e =
-    let rest = andThen (segmentCheck (body f MEMORY)) (traceCheck (fileTrace f) (length room)) in
-    let p = both-done (fileCheck f) (bodiesCheck (body f LAYOUT) (body f MEMORY) (fileTrace f) memory room) e in
-    let q = call-passed memory (body f LAYOUT) rest (p .1) in
-    let s = both-done (segmentCheck (body f MEMORY)) (traceCheck (fileTrace f) (length room)) (q .2) in
-    (p .0, trace-passed (fileTrace f) (length room) (s .1))
-
--- so the room holds its answers
+-- the room holds the answers of a file that is judged
 tellable-by : (f memory room : List ℕ) (a : Answer) (o : Traced) → judgeCheck f memory room ≡ a
     → tracedRow o ≡ told a (values (fileTotals f)) → Tellable o (length room)
 tellable-by f memory room call.Done o e w =
-    let p = file-passed f memory room e .1 in
+    let p = trace-passed (fileTrace f) (length room) (admitted f memory room e .trace) in
     subst (λ (x : Traced). Tellable x (length room)) (sym (traced-row-settled o (traced.Judged (fileTotals f)) w)) (p .most, p .roomy)
 tellable-by f memory room (call.Refused r) o e w =
-    subst (λ (x : Traced). Tellable x (length room)) (sym (traced-row-settled o (traced.Refused r) w)) (omega arith)
+    subst (λ (x : Traced). Tellable x (length room)) (sym (traced-row-settled o (traced.Refused r) w)) tt
 
 pub tellable : (f memory room memory′ room′ : List ℕ) (o : Traced) → Judges f memory room memory′ room′ o
     → length room′ ≡ length room → Tellable o (length room′)

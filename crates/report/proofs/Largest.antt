@@ -27,10 +27,10 @@ use Rattle.monitor.specs.Runs.{State, count, begin, before, steps, said, resett
 use Rattle.runfile.specs.Contents.{fileCheck, body}
 use Rattle.runfile.specs.Promises.{fileLayout, fileMemory, fileTrace, fileTotals, judgeCheck}
 use Rattle.runfile.proofs.Entries.{sound}
+use Rattle.runfile.proofs.Files.{admitted}
 use Rattle.report.specs.Text.{places, shown, cpuShown, dmaShown, line, lines, totalsLine, refusedLine, judgedText, printed, fileText}
 use Rattle.report.specs.Promises.{Writes}
 use Rattle.report.proofs.Decimal.{length-digits, length-decimal, places-most, places-twenty}
-use Rattle.report.proofs.Calls.{file-passed}
 
 -- ---- one line
 
@@ -163,7 +163,7 @@ steps-most f e =
 printed-most : (f memory room : List ℕ) (a : Answer) → judgeCheck f memory room ≡ a
     → length (printed a (judgedText (said (fileLayout f) (steps (fileTrace f)) (begin (fileMemory f))) (fileTotals f))) ≤ 52125
 printed-most f memory room Done e =
-    let h = steps-most f (file-passed f memory room e .0) in
+    let h = steps-most f (admitted f memory room e .contents) in
     run-most (fileLayout f) (steps (fileTrace f)) (begin (fileMemory f)) (count (fileTrace f)) h
 printed-most f memory room (Refused r) e = omega (arith, length-refused r)
 

@@ -33,4 +33,4 @@ textOf (Refused r) room = refusedLine r
 -- the room holds the answers
 abbrev pub Tellable : Traced → ℕ → Type 0
 Tellable (Judged t) room = (t .steps ≤ mostSteps) × (answerSize * t .steps ≤ room)
-Tellable (Refused r) room = 0 ≤ room
+Tellable (Refused r) room = Unit {0}

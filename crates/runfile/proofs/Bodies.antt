@@ -3,7 +3,7 @@ use mathlib.Core.Path.{_≡_, sym, subst, _∙_}
 use mathlib.Core.List.{List}
 use Prim.Native.Nat.{ℕ, _*_, _≤_}
 use lib.ListN.{length}
-use Rattle.refusal.specs.Answers.{row, andThen, told, lent}
+use Rattle.refusal.specs.Answers.{row, andThen}
 use Rattle.refusal.specs.Settled.{row-settled}
 use Rattle.refusal.specs.declared.Refusal.{Refusal}
 use Rattle.refusal.specs.declared.Answer.{Answer}
@@ -17,12 +17,12 @@ use Rattle.layout.specs.Promises.{Admits}
 use Rattle.layout.proofs.Calls.{call-passed, admitted-good, admitted-refused}
 use Rattle.monitor.specs.declared.Traced.{Traced}
 use Rattle.monitor.specs.declared.Traced.the-variants as traced
-use Rattle.monitor.specs.Runs.{answerSize, count, memoryAfter, roomAfter, totals}
-use Rattle.monitor.specs.Promises.{traceCheck, values, tracedRow, Fits, Runs}
+use Rattle.monitor.specs.Runs.{answerSize, count}
+use Rattle.monitor.specs.Promises.{traceCheck, Fits, Runs}
 use Rattle.monitor.proofs.Checks.{trace-passed}
 use Rattle.monitor.proofs.Calls.{run-passes}
 use Rattle.runfile.specs.Segments.{segmentCheck, described}
-use Rattle.runfile.specs.Promises.{bodiesCheck}
+use Rattle.runfile.specs.Promises.{bodiesCheck, JudgesBodies}
 use Rattle.runfile.proofs.Described.{length-described}
 
 -- ---- the segments, and then the trace
@@ -39,13 +39,6 @@ module _ (body trace : List ℕ) (room : ℕ) (a : Answer) (e : row a ≡ row (s
   then-refused r d = simp (sym (row-settled a (segmentCheck body) e) ∙ d)
 
 -- ---- the call
-
--- what it promises: memory′ and room′ stand there afterwards
-abbrev pub Judges : (layout body trace memory room memory′ room′ : List ℕ) (r : Traced) → Type 0
-Judges layout body trace memory room memory′ room′ r =
-    (tracedRow r ≡ told (bodiesCheck layout body trace memory room) (values (totals (layoutOf layout) trace (described body))))
-    × (memory′ ≡ lent (bodiesCheck layout body trace memory room) (memoryAfter (layoutOf layout) trace (described body)) memory)
-    × (room′ ≡ lent (bodiesCheck layout body trace memory room) (roomAfter (layoutOf layout) trace (described body) room) room)
 
 module _ (layout body trace memory room : List ℕ) where
   -- all that was checked
@@ -66,15 +59,19 @@ module _ (layout body trace memory room : List ℕ) where
 
   -- the run on the memory that was filled: it is not refused
   pub judged : (l : Layout) (memory₁ memory′ room′ : List ℕ) (r : Traced) → Passed l → memory₁ ≡ described body
-      → Runs l trace memory₁ room memory′ room′ r → Judges layout body trace memory room memory′ room′ r
+      → Runs l trace memory₁ room memory′ room′ r → JudgesBodies layout body trace memory room memory′ room′ r
   judged l memory₁ memory′ room′ r p e f =
       let c = run-passes trace (described body) (length room) (length-described body (p .segmented)) (p .roomy) in
       let q = subst (λ (k : Layout). Runs k trace (described body) room memory′ room′ r) (p .read) (subst (λ (m : List ℕ). Runs l trace m room memory′ room′ r) e f) in
-      (simp (p .check) (simp c at (q .answered)), simp (p .check) (simp c at (q .memory-left)), simp (p .check) (simp c at (q .room-left)))
+      record {
+        answered = simp (p .check) (simp c at (q .answered));
+        memory-left = simp (p .check) (simp c at (q .memory-left));
+        room-left = simp (p .check) (simp c at (q .room-left));
+      }
 
   pub refused : (r : Refusal) → Admits memory layout (rest body trace (length room)) (checked.Refused r)
-      → Judges layout body trace memory room memory room (traced.Refused r)
+      → JudgesBodies layout body trace memory room memory room (traced.Refused r)
   unfolding bodiesCheck
   refused r e =
       let g = admitted-refused memory layout (rest body trace (length room)) r e in
-      (simp g, simp g, simp g)
+      record { answered = simp g; memory-left = simp g; room-left = simp g }

@@ -7,11 +7,9 @@ ghost use mathlib.Core.Path.{_≡_};
 ghost use Prim.Native.Nat.{_+_, _-_, _*_, _≤_, _<_};
 ghost use lib.ListN.{length, drop, replicate};
 ghost use lib.Seq.{paste};
-ghost use Rattle.refusal.specs.Answers.{row, andThen, told, lent};
-ghost use Rattle.layout.specs.Layouts.{layoutOf};
+ghost use Rattle.refusal.specs.Answers.{row, andThen};
 ghost use Rattle.layout.specs.Calls.{memoryBytes};
-ghost use Rattle.monitor.specs.Runs.{totals, memoryAfter, roomAfter};
-ghost use Rattle.monitor.specs.Promises.{traceCheck, values, tracedRow};
+ghost use Rattle.monitor.specs.Promises.{traceCheck};
 ghost use Rattle.runfile.specs.Contents as C;
 ghost use Rattle.runfile.specs.Segments as S;
 ghost use Rattle.runfile.specs.Promises as P;
@@ -199,15 +197,8 @@ fn judge_bodies(
     room: &mut [u8],
 ) -> Traced
     requires { ⌜ length (now body) ≤ C.mostBytes ⌝ }
-    ensures { λ r. ⌜ (tracedRow r
-        ≡ told (P.bodiesCheck (now (layout .entry)) (now (body .entry)) (now (trace .entry)) (now (memory .entry)) (now (room .entry)))
-        (values (totals (layoutOf (now (layout .entry))) (now (trace .entry)) (S.described (now (body .entry))))))
-        × (now (memory .exit)
-        ≡ lent (P.bodiesCheck (now (layout .entry)) (now (body .entry)) (now (trace .entry)) (now (memory .entry)) (now (room .entry)))
-        (memoryAfter (layoutOf (now (layout .entry))) (now (trace .entry)) (S.described (now (body .entry)))) (now (memory .entry)))
-        × (now (room .exit)
-        ≡ lent (P.bodiesCheck (now (layout .entry)) (now (body .entry)) (now (trace .entry)) (now (memory .entry)) (now (room .entry)))
-        (roomAfter (layoutOf (now (layout .entry))) (now (trace .entry)) (S.described (now (body .entry))) (now (room .entry))) (now (room .entry))) ⌝ }
+    ensures { λ r. ⌜ P.JudgesBodies (now (layout .entry)) (now (body .entry)) (now (trace .entry)) (now (memory .entry)) (now (room .entry))
+        (now (memory .exit)) (now (room .exit)) r ⌝ }
 {
     let rest = check_bodies(body, trace, room.len());
     match layout::admit(memory, layout, rest) {

@@ -1,5 +1,5 @@
 -- Run files, proved. Assumes nothing.
-use mathlib.Core.Path.{_≡_, refl, ap, sym, subst, _∙_}
+use mathlib.Core.Path.{_≡_, ap, sym, subst, _∙_}
 use mathlib.Core.Logic.{_≢_, _⊎_, inl, inr}
 use mathlib.Core.Bool.{not, _||_}
 use mathlib.Core.List.{List}
@@ -11,7 +11,6 @@ use borrow.Author.Tests.{ltb-true, ltb-false, eq-eqb}
 use Rattle.refusal.specs.Choice.{pick}
 use Rattle.refusal.specs.Answers.{refusedAt, andThen, told, lent}
 use Rattle.refusal.specs.Numbers.{memorySize, layoutSize, regionReversed, regionSize, zeroInCode, regionsShare, traceSize, roomSize, stepNotZero, contents, segment, fileSize}
-use Rattle.refusal.specs.declared.Refusal.{Refusal}
 use Rattle.refusal.specs.declared.Answer.{Answer}
 use Rattle.refusal.specs.declared.Answer.the-variants as call
 use Rattle.refusal.proofs.Tests.{cases}
@@ -20,16 +19,14 @@ use Rattle.layout.specs.Regions.{within}
 use Rattle.layout.specs.Layouts.{CR, region, firstReversed, firstWrongSize, firstCollision, layoutCheck}
 use Rattle.layout.specs.Calls.{callCheck, memoryBytes}
 use Rattle.layout.proofs.Calls.{call-rest}
-use Rattle.monitor.specs.declared.Totals.{Totals}
 use Rattle.monitor.specs.declared.Traced.{Traced}
-use Rattle.monitor.specs.declared.Traced.the-variants.{Judged}
 use Rattle.monitor.specs.Runs.{stepSize, answerSize, count, roomAfter}
 use Rattle.monitor.specs.Promises.{mostSteps, firstUnclean, traceCheck, values, tracedRow}
 use Rattle.monitor.specs.Settled.{traced-row-settled}
 use Rattle.monitor.proofs.Checks.{traced-judged, traced-refused}
 use Rattle.runfile.specs.Contents.{LAYOUT, MEMORY, TRACE, mostBytes, entries, firstFailing, fileCheck, body}
 use Rattle.runfile.specs.Segments.{segments, firstWrong, segmentCheck}
-use Rattle.runfile.specs.Promises.{fileLayout, fileMemory, fileTrace, fileTotals, bodiesCheck, judgeCheck, Judges}
+use Rattle.runfile.specs.Promises.{fileLayout, fileMemory, fileTrace, fileTotals, bodiesCheck, judgeCheck}
 use Rattle.runfile.proofs.Entries.{sound, layout-part}
 use Rattle.runfile.proofs.Files.{admitted}
 use Rattle.runfile.proofs.Described as D

@@ -82,7 +82,7 @@ memoryLength memory = plain 1 (length memory ≢ 65536)
 abbrev pub In : ℕ → Region → Type 0
 In a r = (r .lo ≤ a) × (a ≤ r .hi)
 
--- a region of one address more than from the lowest to the highest has n bytes
+-- a region has n bytes: both its ends are counted
 abbrev pub Sized : Region → ℕ → Type 0
 Sized r n = r .hi + 1 ≡ r .lo + n
 
@@ -137,7 +137,7 @@ requestConditions memory layout =
     ∷ plain 11 (received l memory ≢ hmac (key l memory) (challenge l memory))
     ∷ []
 
--- 12, where the lengths or the total are not as P says
+-- 12, where P says what is wrong with the lengths or the total
 abbrev pub lengthConditions : Type 0 → List Condition
 lengthConditions P = plain 12 P ∷ []
 

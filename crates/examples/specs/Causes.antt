@@ -3,7 +3,7 @@ use mathlib.Core.Path.{_≡_}
 use mathlib.Core.List.{List, [], _∷_, map}
 use Prim.Native.Nat.{ℕ}
 use Rattle.rules.specs.Rules.{cause}
-use Rattle.demands.specs.Marked.{page, at, reads, writes, interrupted, dmaReads, dmaWrites, held, last, monitor, Row, row}
+use Rattle.demands.specs.Marked.{page, at, reads, writes, interrupted, dmaReads, held, last, monitor, Row, row}
 
 -- with the page's layout
 abbrev pub table : List Row

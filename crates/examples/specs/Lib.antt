@@ -1,3 +1,3 @@
+pub mod PageCase
 pub mod Refusals
 pub mod Causes
-pub mod PageCase

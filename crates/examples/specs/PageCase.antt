@@ -7,7 +7,7 @@ use Rattle.demands.specs.Marked.{pageBytes}
 use Rattle.report.specs.Text.{header, fileText}
 
 -- offset and length of a body, both under 256
-abbrev entry : ℕ → ℕ → List ℕ
+abbrev pub entry : ℕ → ℕ → List ℕ
 entry offset size = offset ∷ 0 ∷ 0 ∷ 0 ∷ size ∷ 0 ∷ 0 ∷ 0 ∷ []
 
 -- the first seven bytes of a step; the other five are 0

@@ -1,11 +1,9 @@
 -- For each refusal number a call that is refused with it: its inputs, its answer, and what it leaves. Assumes nothing.
-use mathlib.Core.Path.{_≡_}
 use mathlib.Core.List.{List, [], _∷_, _++_}
 use Prim.Native.Nat.{ℕ}
 use lib.ListN.{replicate}
 use Rattle.refusal.specs.declared.Refusal.{Refusal}
 use Rattle.refusal.specs.declared.Answer.the-variants as call
-use Rattle.sha256.specs.declared.Digest.{Digest}
 use Rattle.layout.specs.declared.Checked.the-variants as checked
 use Rattle.layout.specs.Promises.{Checks}
 use Rattle.monitor.specs.declared.Traced.the-variants as traced
@@ -15,6 +13,7 @@ use Rattle.station.specs.Promises.{MakesToken}
 use Rattle.runfile.specs.Promises.{Judges}
 use Rattle.demands.specs.Marked.{pageBytes}
 use Rattle.demands.specs.Witness as small
+use Rattle.examples.specs.PageCase.{entry}
 
 -- the refusal with this number at this place
 abbrev with : ℕ → ℕ → Refusal
@@ -29,8 +28,7 @@ blank = zeros 65536
 
 -- CR, KR, XS, MR, CTR, AR, all in the first 256 addresses
 abbrev layout : List ℕ → List ℕ → List ℕ → List ℕ → List ℕ
-layout cr mr ctr ar =
-    cr ++ small.region 0x09 0x48 ++ small.region 0x03 0x04 ++ mr ++ ctr ++ ar
+layout cr mr ctr ar = cr ++ small.region 0x09 0x48 ++ small.region 0x03 0x04 ++ mr ++ ctr ++ ar
 
 -- AR's lowest address is above its highest
 abbrev pub reversed : List ℕ
@@ -52,11 +50,7 @@ shared = layout (small.region 0x01 0x02) (small.region 0x49 0xa8) (small.region 
 abbrev pub unclean : List ℕ
 unclean = zeros 12 ++ zeros 6 ++ 32 ∷ zeros 5
 
--- a file with the page's layout, these bytes of segments, and no trace
-abbrev entry : ℕ → ℕ → List ℕ
-entry offset size = offset ∷ 0 ∷ 0 ∷ 0 ∷ size ∷ 0 ∷ 0 ∷ 0 ∷ []
-
--- its second segment starts before the end of the first
+-- a file with the page's layout and no trace, whose second segment starts before the end of the first
 abbrev pub overlapping : List ℕ
 overlapping =
     entry 24 24 ++ entry 48 11 ++ entry 59 0 ++ pageBytes

@@ -1,6 +1,7 @@
 // The text that the program `judge` prints, written into a lent buffer.
 //
-// Every function answers the place behind what it writes. What does not fit is counted and not stored.
+// Every function answers the place behind what it writes. What does not fit is counted and not stored. What the private functions ask
+// of a place only keeps sums small: all places of a text are far below.
 use monitor::StepAnswer;
 use monitor::Totals;
 use monitor::Traced;

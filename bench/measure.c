@@ -1,17 +1,13 @@
 // Times the proved SHA-256 beside other implementations in one process, and prints a markdown table. bench/run builds
 // and runs it.
-#define _GNU_SOURCE
+#include "timing.h"
 #include <openssl/sha.h>
-#include <sched.h>
 #include <sodium.h>
 #include <stdint.h>
-#include <stdio.h>
 #include <stdlib.h>
 #include <string.h>
-#include <time.h>
 
-enum { LONGEST = 131072, ROUNDS = 100 };
-static const double SLICE = 0.002; // seconds: a turn is at least this long, and still much shorter than a time slice
+enum { LONGEST = 131072 };
 
 // The Rattle function of crates/speed; a slice is a pointer and a length.
 void speed_hash(const uint8_t *message, size_t length, uint8_t *room, size_t room_length);
@@ -73,14 +69,6 @@ static void check_length(size_t length)
     }
 }
 
-// CPU time: what other processes take of the machine meanwhile is not counted.
-static double now(void)
-{
-    struct timespec t;
-    clock_gettime(CLOCK_PROCESS_CPUTIME_ID, &t);
-    return (double)t.tv_sec + 1e-9 * (double)t.tv_nsec;
-}
-
 static double turn(int i, size_t length, long calls)
 {
     uint8_t digest[32];
@@ -98,12 +86,7 @@ static int ascending(const void *a, const void *b)
 
 int main(void)
 {
-    // One CPU for all, so that no implementation is moved to a colder or slower one in the middle.
-    cpu_set_t cpu;
-    CPU_ZERO(&cpu);
-    CPU_SET(sched_getcpu(), &cpu);
-    if (sched_setaffinity(0, sizeof cpu, &cpu) != 0)
-        fprintf(stderr, "measure: not pinned to one CPU\n");
+    pin_to_one_cpu();
 
     uint32_t x = 1;
     for (size_t i = 0; i < LONGEST; i++) {

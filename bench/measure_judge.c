@@ -1,15 +1,11 @@
 // Times the proved judging of run files beside a plain C judge of the same rules in one process, and prints a markdown table.
 // bench/run builds and runs it.
-#define _GNU_SOURCE
-#include <sched.h>
+#include "timing.h"
 #include <stdint.h>
-#include <stdio.h>
 #include <stdlib.h>
 #include <string.h>
-#include <time.h>
 
-enum { MEMORY = 65536, ROOM = 16384, MOST = 49152, MOST_STEPS = 4092, ROUNDS = 100, CONTENTS = 24, LAYOUT = 24, STEP = 12 };
-static const double SLICE = 0.002; // seconds: a turn is at least this long, and still much shorter than a time slice
+enum { MEMORY = 65536, ROOM = 16384, MOST = 49152, MOST_STEPS = 4092, CONTENTS = 24, LAYOUT = 24, STEP = 12 };
 
 typedef size_t judge(const uint8_t *file, size_t length, uint8_t *memory, size_t memory_length, uint8_t *room,
                      size_t room_length);
@@ -142,14 +138,6 @@ static void agree(const char *name)
     }
 }
 
-// CPU time: what other processes take of the machine meanwhile is not counted.
-static double now(void)
-{
-    struct timespec t;
-    clock_gettime(CLOCK_PROCESS_CPUTIME_ID, &t);
-    return (double)t.tv_sec + 1e-9 * (double)t.tv_nsec;
-}
-
 static double turn(int i, long calls)
 {
     double start = now();
@@ -168,12 +156,7 @@ static int resets(size_t steps)
 
 int main(void)
 {
-    // One CPU for all, so that no implementation is moved to a colder or slower one in the middle.
-    cpu_set_t cpu;
-    CPU_ZERO(&cpu);
-    CPU_SET(sched_getcpu(), &cpu);
-    if (sched_setaffinity(0, sizeof cpu, &cpu) != 0)
-        fprintf(stderr, "measure_judge: not pinned to one CPU\n");
+    pin_to_one_cpu();
 
     printf("| file | bytes | steps | resets | ours, µs |");
     for (int i = 1; i < COUNT; i++)

@@ -69,7 +69,7 @@ module _ (l : Layout) (b c : List ℕ) (g : SameTrace l b c) (n : ℕ) where
       (λ h. simp (h, sym scratch-same ∙ h))
       (λ h. simp (h, sym scratch-same ∙ h) (same-data h))
 
-  blank-same : blank l (steps b n) ≡ blank l (steps c n)
+  pub blank-same : blank l (steps b n) ≡ blank l (steps c n)
   blank-same = ap (with (steps b n)) kept-same ∙ with-same (pick (scratch l (steps c n)) 0 (steps c n .cpudata))
 
 pub either-tells : EitherTells
@@ -84,7 +84,7 @@ either-tells l b c g = record {
 -- ---- the checks of two calls
 
 module _ (l : Layout) (b c : List ℕ) (g : SameTrace l b c) where
-  count-same : count b ≡ count c
+  pub count-same : count b ≡ count c
   count-same = ap (λ (k : ℕ). k / stepSize) (g .long)
 
   unclean-same : (n : ℕ) → unclean b n ≡ unclean c n

@@ -16,12 +16,14 @@ use Rattle.refusal.specs.declared.Answer.the-variants as call
 use Rattle.refusal.proofs.Tests.{cases}
 use Rattle.refusal.proofs.Order.{Refuses, refuses-none, refuses-test, refuses-untested, refuses-after, refuses-then}
 use Rattle.layout.specs.Regions.{within}
-use Rattle.layout.specs.Layouts.{CR, region, firstReversed, firstWrongSize, firstCollision, layoutCheck}
+use Rattle.layout.specs.Layouts.{CR, region, layoutOf, firstReversed, firstWrongSize, firstCollision, layoutCheck}
 use Rattle.layout.specs.Calls.{callCheck, memoryBytes}
 use Rattle.layout.proofs.Calls.{call-rest}
+use Rattle.monitor.specs.declared.Totals.{Totals}
 use Rattle.monitor.specs.declared.Traced.{Traced}
-use Rattle.monitor.specs.Runs.{stepSize, answerSize, count, roomAfter}
-use Rattle.monitor.specs.Promises.{mostSteps, firstUnclean, traceCheck, values, tracedRow}
+use Rattle.monitor.specs.declared.Traced.the-variants.{Judged}
+use Rattle.monitor.specs.Runs.{stepSize, answerSize, count, steps, begin, said, resetting, roomAfter, totals}
+use Rattle.monitor.specs.Promises.{mostSteps, firstUnclean, traceCheck, values, tracedRow, Traces}
 use Rattle.monitor.specs.Settled.{traced-row-settled}
 use Rattle.monitor.proofs.Checks.{traced-judged, traced-refused}
 use Rattle.runfile.specs.Contents.{LAYOUT, MEMORY, TRACE, mostBytes, entries, firstFailing, fileCheck, body}
@@ -30,8 +32,12 @@ use Rattle.runfile.specs.Promises.{fileLayout, fileMemory, fileTrace, fileTotal
 use Rattle.runfile.proofs.Entries.{sound, layout-part}
 use Rattle.runfile.proofs.Files.{admitted}
 use Rattle.runfile.proofs.Described as D
+use Rattle.report.specs.Text.{judgedText}
+use Rattle.report.proofs.Laws.{judged-same}
 use Rattle.demands.specs.Files as claim
 use Rattle.demands.specs.Files.{Names}
+use Rattle.demands.proofs.Demand3.{demand-3-runs}
+use Rattle.demands.proofs.Demand3Calls.{blank-same, count-same, demand-3-calls}
 
 -- ---- the described memory
 
@@ -82,6 +88,33 @@ memory-unseen file x y room x′ room₁ y′ room₂ r q e j k =
           let d = traced-judged (judgeCheck file x room) t (fileTotals file) (subst (λ (o : Traced). tracedRow o ≡ told (judgeCheck file x room) (values (fileTotals file))) f (j .answered)) in
           (simp (d .0) at (j .memory-left)) ∙ sym (simp (sym c ∙ d .0) at (k .memory-left)),
     )
+
+-- ---- two files that differ in key and scratch
+
+judged-totals : (t u : Totals) → _≡_ {A = Traced} (Judged t) (Judged u) → t ≡ u
+judged-totals t u e = cc
+
+pub demand-3-files : claim.Demand3Files
+demand-3-files f g x y room x′ y′ room₁ room₂ t u s j k =
+    let p = file-is-trace f x room x′ room₁ t j in
+    let q = subst (λ (b : List ℕ). Traces (fileMemory g) b (fileTrace g) room y′ room₂ (Judged u)) (sym (s .layouts)) (file-is-trace g y room y′ room₂ u k) in
+    let d = demand-3-calls (body f LAYOUT) (fileTrace f) (fileTrace g) room (fileMemory f) (fileMemory g) x′ y′ room₁ room₂ (Judged t) (Judged u) (s .memories) (s .traces) p q in
+    record { told = judged-totals t u (d .told); rooms = d .rooms; memories = d .memories }
+
+pub prints-the-same : claim.PrintsTheSame
+prints-the-same f g x y room s a b =
+    let l = fileLayout f in
+    let c = fileTrace g in
+    let z = begin (fileMemory g) in
+    let u = demand-3-runs l (steps (fileTrace f)) (steps c) (fileMemory f) (fileMemory g) (count (fileTrace f)) (s .memories) (λ k i. blank-same l (fileTrace f) c (s .traces) k) in
+    let e : fileTotals f ≡ totals l c (fileMemory g) =
+    ap (λ (n : ℕ). record { steps = count (fileTrace f); resets = n }) (u .counted)
+    ∙ ap (λ (n : ℕ). record { steps = n; resets = resetting l (steps c) z n }) (count-same l (fileTrace f) c (s .traces)) in
+    let d : judgedText (said l (steps (fileTrace f)) (begin (fileMemory f))) (fileTotals f) ≡ judgedText (said (fileLayout g) (steps c) z) (fileTotals g) =
+    judged-same (said l (steps (fileTrace f)) (begin (fileMemory f))) (said l (steps c) z) (fileTotals f) (u .each)
+    ∙ ap (judgedText (said l (steps c) z)) e
+    ∙ ap (λ (bytes : List ℕ). judgedText (said (layoutOf bytes) (steps c) z) (totals (layoutOf bytes) c (fileMemory g))) (s .layouts) in
+    simp (a, b) d
 
 -- ---- one that is refused
 

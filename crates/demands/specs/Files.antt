@@ -14,7 +14,9 @@ use Rattle.monitor.specs.declared.Traced.the-variants.{Judged, Refused}
 use Rattle.monitor.specs.Promises.{Traces}
 use Rattle.runfile.specs.Contents.{LAYOUT, body}
 use Rattle.runfile.specs.Segments.{headSize, startAt, sizeAt, place, segments, segmentCheck, described}
-use Rattle.runfile.specs.Promises.{fileMemory, fileTrace, Judges}
+use Rattle.runfile.specs.Promises.{fileLayout, fileMemory, fileTrace, judgeCheck, Judges}
+use Rattle.report.specs.Text.{fileText}
+use Rattle.demands.specs.Demand3.{Agree, SameTrace, SameCall}
 
 -- ---- the memory that segments describe, byte by byte
 
@@ -50,6 +52,26 @@ MemoryUnseen =
     (file x y room x′ room₁ y′ room₂ : List ℕ) (r q : Traced) → length x ≡ length y
     → Judges file x room x′ room₁ r → Judges file y room y′ room₂ q
     → (r ≡ q) × (room₁ ≡ room₂) × ((t : Totals) → r ≡ Judged t → x′ ≡ y′)
+
+-- ---- two files that differ in key and scratch
+
+-- demand 3 of files: one layout, memories that agree outside KR and XS, traces that are the same but for bytes stored into the scratch
+pub record SameFile (f g : List ℕ) : Type 0 where
+  pub layouts : body f LAYOUT ≡ body g LAYOUT
+  pub memories : Agree (fileLayout f) (fileMemory f) (fileMemory g)
+  pub traces : SameTrace (fileLayout f) (fileTrace f) (fileTrace g)
+
+abbrev pub Demand3Files : Type 0
+Demand3Files =
+    (f g x y room x′ y′ room₁ room₂ : List ℕ) (t u : Totals) → SameFile f g
+    → Judges f x room x′ room₁ (Judged t) → Judges g y room y′ room₂ (Judged u)
+    → SameCall (fileLayout f) t u room₁ room₂ x′ y′
+
+-- so the same text is printed of both: who reads it learns nothing of the key
+abbrev pub PrintsTheSame : Type 0
+PrintsTheSame =
+    (f g x y room : List ℕ) → SameFile f g → judgeCheck f x room ≡ Done → judgeCheck g y room ≡ Done
+    → fileText f x room ≡ fileText g y room
 
 -- ---- one that is refused
 

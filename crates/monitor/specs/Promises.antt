@@ -54,9 +54,9 @@ stepCheck b room =
 
 -- refusals 1 and 8 of a run with a layout that has been read
 unfoldable pub runCheck : List ℕ → List ℕ → ℕ → Answer
-runCheck memory b room =
+runCheck memory trace room =
     pick (not (eqb (length memory) memoryBytes)) (refusedAt memorySize 0)
-    (pick (ltb room (answerSize * count b)) (refusedAt roomSize 0) call.Done)
+    (pick (ltb room (answerSize * count trace)) (refusedAt roomSize 0) call.Done)
 
 -- ---- answers
 

@@ -1,4 +1,4 @@
--- The two calls on plain variables: what their checks have passed, and what follows from a run or a refusal. Assumes nothing.
+-- The calls on plain variables: what their checks have passed, and what follows from a run or a refusal. Assumes nothing.
 use mathlib.Core.Path.{_≡_, subst}
 use mathlib.Core.List.{List, _++_}
 use Prim.Native.Nat.{ℕ, _*_, _≤_, _<_}

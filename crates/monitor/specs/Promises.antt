@@ -4,7 +4,7 @@ use mathlib.Core.Bool.{Bool, not, _||_}
 use mathlib.Core.List.{List, [], _∷_, _++_}
 use Prim.Native.Nat.{ℕ, _*_, _%_}
 use lib.Dec.{eqb, ltb}
-use lib.ListN.{length, drop}
+use lib.ListN.{length, drop, replicate}
 use Rattle.refusal.specs.Choice.{pick}
 use Rattle.refusal.specs.First.{first}
 use Rattle.refusal.specs.Answers as A
@@ -38,10 +38,14 @@ unclean b n = not (clean (stepBytes b n))
 abbrev pub firstUnclean : List ℕ → ℕ
 firstUnclean b = first (count b) (unclean b)
 
+-- a trace that is not whole steps, or over 4,096 of them
+abbrev pub misfits : List ℕ → Bool
+misfits b = not (eqb (length b % stepSize) 0) || ltb mostSteps (count b)
+
 -- refusals 7 to 9 of a trace and an answer room of so many bytes: all steps are checked before the first is judged
 unfoldable pub traceCheck : List ℕ → ℕ → Answer
 traceCheck b room =
-    pick (not (eqb (length b % stepSize) 0) || ltb mostSteps (count b)) (refusedAt traceSize 0)
+    pick (misfits b) (refusedAt traceSize 0)
     (pick (ltb room (answerSize * count b)) (refusedAt roomSize 0)
     (pick (ltb (firstUnclean b) (count b)) (refusedAt stepNotZero (firstUnclean b)) call.Done))
 
@@ -109,6 +113,10 @@ pub record Steps (memory layout step : List ℕ) (m : Monitor) (room memory′ r
 -- `fits`, the check of a trace and of so much answer room
 pub record Fits (trace : List ℕ) (room : ℕ) (r : Answer) : Type 0 where
   pub answered : A.row r ≡ A.row (traceCheck trace room)
+
+-- `step_record`: the bytes of step n, and zeros if the trace has no such step
+abbrev pub GivesRecord : List ℕ → ℕ → List ℕ → Type 0
+GivesRecord trace n r = r ≡ pick (ltb n (count trace)) (stepBytes trace n) (replicate stepSize 0)
 
 -- `run_with`, the run alone: whatever the steps' zero bits and bytes are, and however many there are
 pub record Runs (l : Layout) (trace memory room memory′ room′ : List ℕ) (r : Traced) : Type 0 where

@@ -46,9 +46,9 @@ struct Judged {
     monitor: Monitor,
 }
 
-const STEP: usize = 12;
+// The bytes of a step and of its answer, and the most steps of a trace.
+pub const STEP: usize = 12;
 
-// The answer bytes of a step, and the most steps of a trace.
 pub const ANSWER: usize = 4;
 
 pub const MOST_STEPS: usize = 4096;
@@ -155,6 +155,16 @@ fn step_bytes(b: &[u8], n: usize) -> [u8; 12]
         b[p + 10],
         b[p + 11],
     ]
+}
+
+// The same of any step: zeros if the trace has none with this number.
+pub fn step_record(trace: &[u8], n: usize) -> [u8; 12]
+    ensures { λ r. ⌜ P.GivesRecord (now (trace .entry)) n r ⌝ }
+{
+    if n < trace.len() / STEP {
+        return step_bytes(trace, n);
+    }
+    [0u8; 12]
 }
 
 // The four answer bytes, at a place of the room.

@@ -1,0 +1,4 @@
+pub mod Reading
+pub mod Promises
+pub mod Settled
+pub mod Whole

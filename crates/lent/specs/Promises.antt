@@ -1,0 +1,27 @@
+-- What the functions over a lent running hash promise: what the methods by value promise, of what stands in the object before and after.
+-- Assumes nothing.
+use mathlib.Core.Path.{_≡_}
+use mathlib.Core.List.{List}
+use Prim.Native.Nat.{ℕ}
+use Rattle.refusal.specs.declared.Answer.{Answer}
+use Rattle.sha256.specs.declared.Sha.{Sha}
+use Rattle.sha256.specs.declared.Digest.{Digest}
+use Rattle.sha256.specs.Promises as byValue
+use Rattle.lent.specs.declared.Finished.{Finished}
+
+-- `start`: the object s′ afterwards, whatever it was before
+abbrev pub Starts : Sha → Type 0
+Starts s′ = byValue.Starts s′
+
+-- `take_in`: the object s with the bytes x is answered with r, and is s′ afterwards
+abbrev pub TakesIn : Sha → List ℕ → Sha → Answer → Type 0
+TakesIn s x s′ r = byValue.TakesIn s x (record { answer = r; state = s′ })
+
+-- `finish`: the object is read only
+abbrev pub Finishes : Sha → Digest → Type 0
+Finishes s r = byValue.Finishes s r
+
+-- `lend_finish`: the object is handed back as it was
+pub record FinishesLent (s : Sha) (r : Finished) : Type 0 where
+  pub finished : Finishes s (r .digest)
+  pub kept : r .state ≡ s

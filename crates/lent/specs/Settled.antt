@@ -1,0 +1,34 @@
+-- Each promise settles the answer and the object. Assumes nothing.
+use mathlib.Core.Path.{_≡_, ap, sym, _∙_}
+use mathlib.Core.List.{List}
+use Prim.Native.Nat.{ℕ}
+use Rattle.refusal.specs.declared.Answer.{Answer}
+use Rattle.sha256.specs.declared.Sha.{Sha}
+use Rattle.sha256.specs.declared.Taken.{Taken}
+use Rattle.sha256.specs.declared.Digest.{Digest}
+use Rattle.sha256.specs.Promises as byValue
+use Rattle.sha256.specs.Settled as byValueSettled
+use Rattle.lent.specs.declared.Finished.{Finished}
+use Rattle.lent.specs.Promises.{Starts, TakesIn, Finishes, FinishesLent}
+
+pub starts-settled : (s₁ s₂ : Sha) → Starts s₁ → Starts s₂ → s₁ ≡ s₂
+starts-settled s₁ s₂ p q = byValueSettled.starts-settled s₁ s₂ p q
+
+-- the lent object and the state by value: the same answer, the same state
+pub as-by-value : {s : Sha} {x : List ℕ} (s′ : Sha) (r : Answer) (t : Taken) → TakesIn s x s′ r → byValue.TakesIn s x t
+    → (r ≡ t .answer) × (s′ ≡ t .state)
+as-by-value s′ r t p q =
+    let e = byValueSettled.takes-in-settled (record { answer = r; state = s′ }) t p q in
+    (ap (λ (u : Taken). u .answer) e, ap (λ (u : Taken). u .state) e)
+
+pub takes-in-settled : {s : Sha} {x : List ℕ} (s₁ s₂ : Sha) (r q : Answer) → TakesIn s x s₁ r → TakesIn s x s₂ q
+    → (r ≡ q) × (s₁ ≡ s₂)
+takes-in-settled s₁ s₂ r q p p′ = as-by-value s₁ r (record { answer = q; state = s₂ }) p p′
+
+pub finishes-settled : (s : Sha) (r q : Digest) → Finishes s r → Finishes s q → r ≡ q
+finishes-settled s r q p p′ = byValueSettled.finishes-settled s r q p p′
+
+pub finishes-lent-settled : (s : Sha) (r q : Finished) → FinishesLent s r → FinishesLent s q → r ≡ q
+finishes-lent-settled s r q p p′ =
+    ap (λ (d : Digest). record { digest = d; state = r .state }) (finishes-settled s (r .digest) (q .digest) (p .finished) (p′ .finished))
+    ∙ ap (λ (u : Sha). record { digest = q .digest; state = u }) (p .kept ∙ sym (p′ .kept))

@@ -1,0 +1,75 @@
+// The running hash that the caller lends and finds changed, for the board. What is worked out is `sha256`'s, by value: these take the
+// object apart and store back what the method hands over.
+use refusal::Answer;
+use sha256::Digest;
+use sha256::Sha;
+use sha256::Taken;
+ghost use mathlib.Core.Path.{_≡_};
+ghost use Rattle.lent.specs.Promises as P;
+
+// A digest, and the state that it is of.
+pub struct Finished {
+    pub digest: Digest,
+    pub state: Sha,
+}
+
+// Before any byte, whatever stood in the object.
+pub fn start(state: &mut Sha)
+    ensures { λ _. ⌜ P.Starts (now (state .exit)) ⌝ }
+{
+    *state = Sha::start();
+}
+
+// Takes the bytes in; refused, and the object as it was, if there would be over 131,072 in all.
+pub fn take_in(state: &mut Sha, bytes: &[u8]) -> Answer
+    ensures { λ r. ⌜ P.TakesIn (now (state .entry)) (now (bytes .entry)) (now (state .exit)) r ⌝ }
+{
+    let held = Sha {
+        words: state.words,
+        block: state.block,
+        total: state.total,
+    };
+    let taken = held.take_in(bytes);
+    state.words = taken.state.words;
+    state.block = taken.state.block;
+    state.total = taken.state.total;
+    taken.answer
+}
+
+// The digest of the bytes taken in; refused if there are over 131,072. Nothing in the object changes.
+pub fn finish(state: &Sha) -> Digest
+    ensures { λ r. ⌜ P.Finishes (now (state .entry)) r ⌝ }
+{
+    Sha::finish(*state)
+}
+
+// The same three for callers that hold the state by value: they lend a local of their own and hand it back.
+pub fn lend_start(state: Sha) -> Sha
+    ensures { λ r. ⌜ P.Starts r ⌝ }
+{
+    let mut lent = state;
+    start(&mut lent);
+    lent
+}
+
+pub fn lend_take_in(state: Sha, bytes: &[u8]) -> Taken
+    ensures { λ r. ⌜ P.TakesIn state (now (bytes .entry)) (r .state) (r .answer) ⌝ }
+{
+    let mut lent = state;
+    let answer = take_in(&mut lent, bytes);
+    Taken {
+        answer,
+        state: lent,
+    }
+}
+
+pub fn lend_finish(state: Sha) -> Finished
+    ensures { λ r. ⌜ P.FinishesLent state r ⌝ }
+{
+    let lent = state;
+    let digest = finish(&lent);
+    Finished {
+        digest,
+        state: lent,
+    }
+}

@@ -9,6 +9,10 @@ use Rattle.sha256.specs.declared.Digest.{Digest}
 use Rattle.sha256.specs.Promises as byValue
 use Rattle.lent.specs.declared.Finished.{Finished}
 
+-- an object is its three fields, whatever they are
+abbrev pub object : List ℕ → List ℕ → ℕ → Sha
+object words block total = record { words = words; block = block; total = total }
+
 -- `start`: the object s′ afterwards, whatever it was before
 abbrev pub Starts : Sha → Type 0
 Starts s′ = byValue.Starts s′
@@ -21,7 +25,7 @@ TakesIn s x s′ r = byValue.TakesIn s x (record { answer = r; state = s′ })
 abbrev pub Finishes : Sha → Digest → Type 0
 Finishes s r = byValue.Finishes s r
 
--- `lend_finish`: the object is handed back as it was
+-- `finish_at`: the object is handed back as it was
 pub record FinishesLent (s : Sha) (r : Finished) : Type 0 where
   pub finished : Finishes s (r .digest)
   pub kept : r .state ≡ s

@@ -43,8 +43,8 @@ pub fn finish(state: &Sha) -> Digest
     Sha::finish(*state)
 }
 
-// The same three for callers that hold the state by value: they lend a local of their own and hand it back.
-pub fn lend_start(state: Sha) -> Sha
+// A local of its own is lent, and handed back.
+fn lend_start(state: Sha) -> Sha
     ensures { λ r. ⌜ P.Starts r ⌝ }
 {
     let mut lent = state;
@@ -52,7 +52,7 @@ pub fn lend_start(state: Sha) -> Sha
     lent
 }
 
-pub fn lend_take_in(state: Sha, bytes: &[u8]) -> Taken
+fn lend_take_in(state: Sha, bytes: &[u8]) -> Taken
     ensures { λ r. ⌜ P.TakesIn state (now (bytes .entry)) (r .state) (r .answer) ⌝ }
 {
     let mut lent = state;
@@ -63,7 +63,7 @@ pub fn lend_take_in(state: Sha, bytes: &[u8]) -> Taken
     }
 }
 
-pub fn lend_finish(state: Sha) -> Finished
+fn lend_finish(state: Sha) -> Finished
     ensures { λ r. ⌜ P.FinishesLent state r ⌝ }
 {
     let lent = state;
@@ -72,4 +72,23 @@ pub fn lend_finish(state: Sha) -> Finished
         digest,
         state: lent,
     }
+}
+
+// The same three for callers that have no object to lend: it is made of these fields, lent, and handed back.
+pub fn start_at(words: [u32; 8], block: [u8; 64], total: u64) -> Sha
+    ensures { λ r. ⌜ P.Starts r ⌝ }
+{
+    lend_start(Sha { words, block, total })
+}
+
+pub fn take_in_at(words: [u32; 8], block: [u8; 64], total: u64, bytes: &[u8]) -> Taken
+    ensures { λ r. ⌜ P.TakesIn (P.object words block total) (now (bytes .entry)) (r .state) (r .answer) ⌝ }
+{
+    lend_take_in(Sha { words, block, total }, bytes)
+}
+
+pub fn finish_at(words: [u32; 8], block: [u8; 64], total: u64) -> Finished
+    ensures { λ r. ⌜ P.FinishesLent (P.object words block total) r ⌝ }
+{
+    lend_finish(Sha { words, block, total })
 }

@@ -54,6 +54,7 @@ use Rattle.reader.proofs.Advance as K
 use Rattle.reader.proofs.Advance.Laws as K′
 use Rattle.reader.proofs.Read as S
 use Rattle.reader.proofs.Read.Laws as S′
+use Rattle.reader.proofs.Held.{α, αᵉ, B, read-val, slice-val, reader-fits, Own, Apart, both-ways}
 use Rattle.reader.proofs.read_on as read-on
 use Rattle.reader.proofs.read_on.Symbol as read-on-def
 use Rattle.reader.proofs.read_on.Symbol.{name as #reader·read-on}
@@ -62,16 +63,6 @@ use Rattle.reader.proofs.StepReader.next.Key.{name as #reader·StepRead
 use Rattle.reader.proofs.StepReader.next as f
 use Rattle.reader.proofs.StepReader.next.Statement as stated
 use Rattle.reader.proofs.StepReader.next.Code as code
-
--- 'a in the signature, and as a place behind a reference has it; and the struct's type
-abbrev α : Lft → NamedLft
-α κ′ = record { mir = named 1; lft = κ′ }
-
-abbrev αᵉ : Lft → NamedLft
-αᵉ κ′ = record { mir = erased; lft = κ′ }
-
-abbrev B : Lft → RattleType
-B κ′ = T.the-row (α κ′)
 
 -- `StepReader<'a>`, as the referent's place in the signature
 abbrev behind : Slot 2
@@ -83,10 +74,6 @@ stayed = (stay-ref (0 ∷ []) tt behind, tt)
 -- the contract that the proof cites
 abbrev ReadOn : {M : Type 1} (𝓤 : URA M) (H : Heap 𝓤) (A : Atoms 𝓤) (mem : Memory → SProp 𝓤) (run : Routine → Fun 𝓤) → Contract 𝓤
 ReadOn 𝓤 H A mem run = tripleOf 𝓤 H A read-on.signature (read-on.spec 𝓤 H A mem run)
-
--- the machine value of what is read
-abbrev read-val : Read → Val
-read-val x = EL.val S.the-type S′.the-laws x
 
 -- what whoever holds an `Advance` knows of its fields
 place-fits : (r : Advance) (w : Val) → Is K.the-row r (w ∷ []) → r .place < 2 ^ 64
@@ -109,35 +96,19 @@ module _ {M : Type 1} (𝓤 : URA M) (H : Heap 𝓤) (A : Atoms 𝓤) (W : Given
   abbrev Post : Val → SProp 𝓤
   Post = walkOf 𝓤 H A f.ended stayed (f.clauses 𝓤 H A at-mem run) .post (((κ, (κ′, tt)), (q, (q′, tt)), bounds, x, at), tt)
 
-  -- the slice's machine value, and what the struct owns
-  abbrev v : Val
-  v = sliceVal (h .trace .ptr) (length (h .trace .now))
-
-  abbrev Own : Fml
-  Own = B κ′ .own h (T′.lowered h ∷ [])
-
   -- what the callee is passed, and what its triple binds outside
   abbrev passed : Vals read-on.signature (κ′, tt)
-  passed = (v ∷ [], (vint w64 (h .place) ∷ [], tt))
+  passed = (slice-val h ∷ [], (vint w64 (h .place) ∷ [], tt))
 
   abbrev to : ReadOn 𝓤 H A at-mem run .Ghost
   to = (((κ′, tt), (q′, tt), tt, (h .trace, (h .place, tt)), passed), tt)
 
-  asked : ent 𝓤 (onEntry 𝓤 H A read-on.signature (κ′, tt) (q′, tt) (h .trace, (h .place, tt)) passed) (ReadOn 𝓤 H A at-mem run .pre to)
-  asked = qed W ((‵ (flft κ′ q′) ⊛ ‵ ftrue) ∷ ‵ (owns (ShrSlice (named 0) κ′ u8 ∷ usize ∷ []) (h .trace, (h .place, tt)) passed) ∷ []) ∵ join ! $ frame ! $ done !
-
-  -- what the struct owns gives what the callee asks, and is kept
-  apart : h .place < 2 ^ 64 → ent 𝓤 (⋆ 𝓤 H A (‵ Own ∷ (‵ (flft κ′ q′) ⊛ ‵ ftrue) ∷ [])) (sep 𝓤 (ReadOn 𝓤 H A at-mem run .pre to) (sem 𝓤 H A Own))
-  apart fits =
-      qed W (‵ Own ∷ (‵ (flft κ′ q′) ⊛ ‵ ftrue) ∷ []) ∵
-      use1 W (‵ Own ⊛ ‵ Own) (LL.copy (T.the-type (α κ′)) (T′.the-copy (α κ′)) 𝓤 H A W .twice h (T′.lowered h ∷ [])) $ split ! $
-      use1 W (given (T′.lowered h ∷ [] ≡ T′.lowered h ∷ []) (‵ (all-own (T.the-type (α κ′) .parts) (T′.the-laws (α κ′)) (h .trace, (h .place, tt))))) (own-open 𝓤 H A W (T.the-type (α κ′)) (T′.the-laws (α κ′)) (h .trace, (h .place, tt)) (T′.lowered h)) $ learn ! (λ _.
-      -- [what the fields own together; what the struct owns; the token]: the callee takes the fields in their order
-      move ! (2 ∷ 0 ∷ []) $ use2 W (raw (ReadOn 𝓤 H A at-mem run .pre to)) asked $ frame ! $ done !)
+  asked : ent 𝓤 (⋆ 𝓤 H A ((‵ (flft κ′ q′) ⊛ ‵ ftrue) ∷ ‵ (Apart κ′ h) ∷ [])) (ReadOn 𝓤 H A at-mem run .pre to)
+  asked = qed W ((‵ (flft κ′ q′) ⊛ ‵ ftrue) ∷ ‵ (Apart κ′ h) ∷ []) ∵ join ! $ frame ! $ done !
 
   -- what the slice owns is kept, and the place's facts are made anew
-  again : (p : ℕ) → p < 2 ^ 64 → ent 𝓤 (sem 𝓤 H A Own) (sem 𝓤 H A (B κ′ .own (at-place p) (T′.lowered (at-place p) ∷ [])))
-  again p fits = qed W (‵ Own ∷ []) ∵ owned ! usize (Is usize) (uint-makes 𝓤 H A W w64) p _ (refl, fits) $ move ! (1 ∷ 0 ∷ []) $ by ! (own-put 𝓤 H A W (T.the-type (α κ′)) (T′.the-laws (α κ′)) 1 (h .trace, (h .place, tt)) p (T′.lowered h))
+  again : (p : ℕ) → p < 2 ^ 64 → ent 𝓤 (sem 𝓤 H A (Own κ′ h)) (sem 𝓤 H A (Own κ′ (at-place p)))
+  again p fits = qed W (‵ (Own κ′ h) ∷ []) ∵ owned ! usize (Is usize) (uint-makes 𝓤 H A W w64) p _ (refl, fits) $ move ! (1 ∷ 0 ∷ []) $ by ! (own-put 𝓤 H A W (T.the-type (α κ′)) (T′.the-laws (α κ′)) 1 (h .trace, (h .place, tt)) p (T′.lowered h))
 
   -- of the callee's `ensured`, the clause alone
   abbrev Said : Advance → Type 0
@@ -166,8 +137,8 @@ module _ {M : Type 1} (𝓤 : URA M) (H : Heap 𝓤) (A : Atoms 𝓤) (W : Given
         move ! (1 ∷ []) $ peeks ! (B κ′) (Is (B κ′)) (shows 𝓤 H A (B κ′)) h (T′.lowered h ∷ []) (λ g. move ! (1 ∷ 0 ∷ []) $
         -- [the struct's cell; what a StepReader owns; the open borrow; obs; auth; 'a's token; true; _4; …; _3; …; _2; …; _1; …; room for _0; …]
         assigns ! (of-opd ! (load ! (from ! (hop ! (look ! 13 refl) (fld ! refl (stop !)))) (look-in ! 0 (sub ! 0 refl (whole !))))) (from ! (stop !)) (init ! 9 refl (tt, LL.lawful (T.the-type (αᵉ κ′)) (T′.the-laws (αᵉ κ′)) 𝓤 H A W .typed h _ g .0 .1 .0)) $
-        assigns ! (of-opd ! (load ! (from ! (hop ! (look ! 13 refl) (fld ! refl (stop !)))) (look-in ! 0 (sub ! 1 refl (whole !))))) (from ! (stop !)) (init ! 7 refl (tt, record { fits = g .1 .1 .1 .0 .1 })) $
-        move ! (1 ∷ 5 ∷ []) $ use2 W (raw (ReadOn 𝓤 H A at-mem run .pre to) ⊛ ‵ Own) (apart (g .1 .1 .1 .0 .1)) $ split ! $
+        assigns ! (of-opd ! (load ! (from ! (hop ! (look ! 13 refl) (fld ! refl (stop !)))) (look-in ! 0 (sub ! 1 refl (whole !))))) (from ! (stop !)) (init ! 7 refl (tt, record { fits = reader-fits κ′ h _ g })) $
+        move ! (1 ∷ []) $ use1 W (‵ (Apart κ′ h) ⊛ ‵ (Own κ′ h)) (both-ways 𝓤 H A W κ′ h) $ split ! $ move ! (6 ∷ 0 ∷ []) $ use2 W (raw (ReadOn 𝓤 H A at-mem run .pre to)) asked $
         -- [what the callee asks; what a StepReader owns; the struct's cell; the open borrow; obs; auth; true; _4; …; _3; …; _2; …; _1; …; room for _0; …]
         calls-at ! fm (ReadOn 𝓤 H A at-mem run) known to (and-then ! (load ! (from ! (stop !)) (look ! 9 refl)) (and-then ! (load ! (from ! (stop !)) (look ! 7 refl)) (no-more !))) (λ w.
         use1 W (later (some (λ (r : Advance). ((‵ (flft κ′ q′) ⊛ ‵ ftrue) ⊛ ‵ (K.the-row .own r (w ∷ []))) ⊛ raw (ensured 𝓤 H A read-on.ended (read-on.clauses 𝓤 H A at-mem run) (κ′, tt) (h .trace, (h .place, tt)) tt r)))) (id⊢ 𝓤 _) $ await ! tt $ pick ! (λ r.
@@ -180,7 +151,7 @@ module _ {M : Type 1} (𝓤 : URA M) (H : Heap 𝓤) (A : Atoms 𝓤) (W : Given
         assigns ! (of-opd ! (load ! (from ! (fld ! refl (stop !))) (look-in ! 12 (sub ! 0 refl (whole !))))) (from ! (stop !)) (init ! 16 refl (EL.lawful S.the-type S′.the-laws 𝓤 H A W tt .typed (r .read) _ (read-is r w is) .0)) $
         -- the borrow is closed at the new place
         move ! (3 ∷ []) $ use1 W (‵ (cellAt fullShare (B κ′ .mir) (T′.lowered (at-place (r .place)) ∷ []) b o)) (W .laws .at-raw fullShare (T′.mir erased) b o (T′.lowered (at-place (r .place)))) $
-        move ! (3 ∷ []) $ use1 W (‵ (B κ′ .own (at-place (r .place)) (T′.lowered (at-place (r .place)) ∷ []))) (again (r .place) (place-fits r w is)) $
+        move ! (3 ∷ []) $ use1 W (‵ (Own κ′ (at-place (r .place)))) (again (r .place) (place-fits r w is)) $
         move ! (1 ∷ 0 ∷ 4 ∷ 5 ∷ 6 ∷ []) $ closes ! tt (B κ′) (at-place (r .place)) (T′.lowered (at-place (r .place)) ∷ []) b o $
         -- [obs; the borrow; its token; the result; 'a's token; true; _4; …; _3; …; _2; …; _1; …; _0; …]
         returns ! (look ! 14 refl) $ forget ! 6 refl $ forget ! 8 refl $ forget ! 10 refl $ forget ! 12 refl $ forget ! 14 refl $

@@ -1,0 +1,3 @@
+pub mod Laws
+pub mod Held
+pub mod Lent

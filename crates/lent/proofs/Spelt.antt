@@ -1,7 +1,6 @@
 -- A state and what is handed back with it, as their machine values are written: `lowered`, in which an array is the list itself.
---     low-is       what a row relates to a value at all it relates to that machine value
+--     told-is      what a row relates to a value at all it relates to the machine values that it tells; low-is: to that one
 --     as-array     what is known of an array in a struct is known of the list itself, and back (as-field)
---     state-is     three fields of which this is known make a state
 -- Assumes nothing.
 use mathlib.Core.Path.{_≡_, refl, sym, subst}
 use mathlib.Core.List.{List, [], _∷_, map}
@@ -10,10 +9,11 @@ use mir.Syntax.{Width, w8, w32}
 use mir.Val.{Val, vint}
 use denote.RattleType.{RattleType}
 use denote.Array.{Array, arrayVal}
-use denote.Laws.{Is}
+use denote.Laws.{Is, Tells}
 use denote.Lowered.{Lowered}
 use denote.Plain.{UInt}
 use denote.Builtin.{u8, u32}
+use denote.Enum.Laws as EL
 use denote.Struct.Laws as LL
 use Rattle.refusal.specs.declared.Answer.{Answer}
 use Rattle.refusal.proofs.Answer as N
@@ -25,8 +25,11 @@ use Rattle.sha256.proofs.Sha.Laws as T′
 use Rattle.sha256.proofs.Taken as K
 use Rattle.sha256.proofs.Taken.Laws as K′
 
+pub told-is : (R : RattleType) (f : R .Denot → List Val) → Tells R (Is R) f → (d : R .Denot) (vs : List Val) → Is R d vs → Is R d (f d)
+told-is R f t d vs is = subst (Is R d) (t d vs is) is
+
 pub low-is : (R : RattleType) (l : Lowered R) (d : R .Denot) (vs : List Val) → Is R d vs → Is R d (l .lowered d ∷ [])
-low-is R l d vs is = subst (Is R d) (l .val-is d vs is) is
+low-is R l = told-is R (λ d. l .lowered d ∷ []) (l .val-is)
 
 map-id : (xs : List ℕ) → map (λ (v : ℕ). v) xs ≡ xs
 map-id [] = refl
@@ -66,3 +69,8 @@ state-is r w is = low-is T.the-row T′.lowers (r .state) _ (LL.owed K.the-type 
 
 pub answer-is : (r : Taken) (w : Val) → Is K.the-row r (w ∷ []) → Is N.the-row (r .answer) (N′.lowered (r .answer) ∷ [])
 answer-is r w is = low-is N.the-row N′.lowers (r .answer) _ (LL.owed K.the-type K′.the-laws r _ is .0)
+
+pub taken-is : (r : Taken) {vs us : List Val} → Is N.the-row (r .answer) vs → Is T.the-row (r .state) us → Is K.the-row r (K′.lowered r ∷ [])
+taken-is r n s =
+    low-is K.the-row K′.lowers r _ (LL.owes K.the-type K′.the-laws r
+    (told-is N.the-row _ (EL.tells N.the-type N′.the-laws) (r .answer) _ n, (told-is T.the-row _ (LL.tells T.the-type T′.the-laws) (r .state) _ s, tt)))

@@ -44,7 +44,7 @@ record-there b p r h e = e ∙ simp (lt-ltb p (count b) h)
 
 -- ---- the place
 
-abbrev IsStep : Read → Type 0
+abbrev pub IsStep : Read → Type 0
 IsStep (read.Step s) = Unit {0}
 IsStep read.End = ⊥
 IsStep (read.Refused r) = ⊥

@@ -73,6 +73,6 @@ begins-settled trace r q p p′ =
 
 pub reads-settled : (h h₁ h₂ : StepReader) (r q : Read) → Reads h h₁ r → Reads h h₂ q → (r ≡ q) × (h₁ ≡ h₂)
 reads-settled h h₁ h₂ r q p p′ =
-    let a = advances-settled (now (h .trace)) (h .place) _ _ (p .advanced) (p′ .advanced) in
+    let a = advances-settled _ _ _ _ (p .advanced) (p′ .advanced) in
     let held = p .holds ∙ sym (p′ .holds) in
     (ap (λ (x : Advance). x .read) a, λ i. record { trace = held i; place = a i .place })

@@ -15,7 +15,7 @@ add-t5 : tie.Need-add-t5
 add-t5 c =
     let h = c .before .before .before .before .args in
     record {
-      fits = omega (arith, step-within (h .trace .now) (h .place) _ (read-at (h .trace .now) (h .place) _ _ (c .before .before .step-at .ensures) (c .enum-told .given .1)));
+      fits = omega (arith, step-within (h .trace .now) (h .at) _ (read-at (h .trace .now) (h .at) _ _ (c .before .before .step-at .ensures) (c .enum-told .given .1)));
     }
 
 enum-told-2 : tie.Need-enum-told-2

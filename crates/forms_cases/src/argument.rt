@@ -33,8 +33,11 @@ pub fn fixed(room: &mut [u8]) -> bool {
 // Reads an argument into the room, and tells its length: more than the room has if it is longer or not all there.
 pub fn free(room: &mut [u8]) -> usize {
     let n = length();
-    if n <= room.len() && io::read_full(STDIN_FILENO, &mut room[0..n]) == n {
-        return n;
+    if room.len() < n {
+        return usize::MAX;
     }
-    usize::MAX
+    if io::read_full(STDIN_FILENO, &mut room[0..n]) < n {
+        return usize::MAX;
+    }
+    n
 }

@@ -54,8 +54,9 @@ fn kind(read: Read) -> u8 {
 // What the reader hands out, and whether the call without a place to move reads the same kind.
 fn read(trace: &[u8], place: usize) {
     let a = reader::next_at(trace, place);
+    let handed = a.read;
     line::advanced(a);
-    if kind(a.read) != kind(reader::step_at(trace, place)) {
+    if kind(handed) != kind(reader::step_at(trace, place)) {
         line::differs();
     }
 }

@@ -6,6 +6,8 @@ mod line;
 mod state;
 
 use libc::STDIN_FILENO;
+ghost use Prim.Native.Nat.{_≤_};
+ghost use lib.ListN.{length};
 
 // The bytes that one call's arguments have at most.
 const MOST: usize = 262_144;
@@ -13,7 +15,9 @@ const MOST: usize = 262_144;
 type Room = [u8; MOST];
 
 // Makes the call with this number, and tells whether its arguments were there.
-fn made(number: u8, room: &mut Room) -> bool {
+fn made(number: u8, room: &mut [u8]) -> bool
+    requires { ⌜ 262144 ≤ length (now room) ⌝ }
+{
     if number == 0 {
         return case::start();
     }

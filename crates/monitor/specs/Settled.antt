@@ -28,7 +28,7 @@ traced-row-settled (traced.Judged t) (traced.Refused s) e = absurd (let z : _≡
 traced-row-settled (traced.Refused r) (traced.Judged u) e = absurd (let z : _≡_ {A = ℕ} 0 1 = cc in omega arith)
 traced-row-settled (traced.Refused r) (traced.Refused s) e = cc (row-settled (call.Refused r) (call.Refused s) e)
 
-held-settled : (a b : Bool) → pick {A = ℕ} a 1 0 ≡ pick b 1 0 → a ≡ b
+pub held-settled : (a b : Bool) → pick {A = ℕ} a 1 0 ≡ pick b 1 0 → a ≡ b
 held-settled true true e = refl
 held-settled true false e = absurd (omega arith)
 held-settled false true e = absurd (omega arith)

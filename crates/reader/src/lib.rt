@@ -48,17 +48,17 @@ pub fn step_at(trace: &[u8], place: usize) -> Read
 }
 
 // Only handing out a step moves the place.
-fn read_on(trace: &[u8], place: usize) -> Advance
-    ensures { λ r. ⌜ P.Advances (now (trace .entry)) place r ⌝ }
+fn read_on(trace: &[u8], at: usize) -> Advance
+    ensures { λ r. ⌜ P.Advances (now (trace .entry)) at r ⌝ }
 {
-    let read = step_at(trace, place);
+    let read = step_at(trace, at);
     match read {
         Read::Step(_) => Advance {
             read,
-            place: place + 1,
+            place: at + 1,
         },
-        Read::End => Advance { read, place },
-        Read::Refused(_) => Advance { read, place },
+        Read::End => Advance { read, place: at },
+        Read::Refused(_) => Advance { read, place: at },
     }
 }
 

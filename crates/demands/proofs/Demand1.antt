@@ -1,18 +1,20 @@
 -- Every public call answers as the rules page's table says: the claims of demand 1. Assumes nothing.
-use mathlib.Core.Path.{_≡_, refl, sym, _∙_}
+use mathlib.Core.Path.{_≡_, refl, ap, sym, _∙_}
 use mathlib.Core.Logic.{_≢_, _⊎_}
 use mathlib.Core.Bool.{Bool, true, false, not, _&&_, _||_}
 use mathlib.Core.List.{List, [], _∷_, _++_}
 use Prim.Native.Nat.{ℕ, suc, _+_, _*_, _/_, _%_, _≤_, _<_}
 use native.Mathlib.Omega.{arith}
-use lib.Dec.{ltb, eqb}
+use lib.Dec.{leb, ltb, eqb}
 use lib.ListN.{length, getD}
+use denote.Ref.{now}
 use borrow.Author.Tests.{not-true, not-false}
 use Rattle.refusal.specs.Choice.{pick}
 use Rattle.refusal.specs.First.{first}
 use Rattle.refusal.specs.Settled.{row-settled}
 use Rattle.refusal.specs.Answers as A
 use Rattle.refusal.specs.Answers.{refusedIf, refusedAt, told}
+use Rattle.refusal.specs.Numbers.{traceSize, stepNotZero}
 use Rattle.refusal.specs.declared.Refusal.{Refusal}
 use Rattle.refusal.specs.declared.Answer.{Answer}
 use Rattle.refusal.specs.declared.Answer.the-variants as call
@@ -26,6 +28,7 @@ use Rattle.layout.specs.Promises as layouts
 use Rattle.layout.specs.Settled as settled
 use Rattle.layout.specs.Calls.{callCheck}
 use Rattle.layout.proofs.Laws.{within-ends, ends-within, shares-exactly}
+use Rattle.rules.specs.declared.Step.{Step}
 use Rattle.rules.specs.Rules.{next}
 use Rattle.monitor.specs.declared.Stepped.{Stepped}
 use Rattle.monitor.specs.declared.Stepped.the-variants as stepped
@@ -33,8 +36,13 @@ use Rattle.monitor.specs.declared.Traced.{Traced}
 use Rattle.monitor.specs.declared.Traced.the-variants as traced
 use Rattle.monitor.specs.Settled.{traced-row-settled, stepped-row-settled}
 use Rattle.monitor.specs.Runs.{count, steps, totals}
-use Rattle.monitor.specs.Promises.{unclean, traceCheck, stepCheck, values, tracedRow, remembered, steppedRow}
+use Rattle.monitor.specs.Promises.{misfits, unclean, traceCheck, stepCheck, values, tracedRow, remembered, steppedRow}
 use Rattle.monitor.proofs.Laws.{step-byte}
+use Rattle.reader.specs.declared.Read.{Read}
+use Rattle.reader.specs.declared.Read.the-variants as read
+use Rattle.reader.specs.Reading as reads
+use Rattle.reader.specs.Reading.{readAt, placeAfter, stepValues, readRow}
+use Rattle.reader.specs.Settled.{read-row-settled}
 use Rattle.hmac.specs.Hmac.{hmac}
 use Rattle.routine.specs.Strings.{same, greater}
 use Rattle.routine.specs.Routine.{token, reply, requestCheck}
@@ -51,11 +59,11 @@ use Rattle.runfile.specs.Segments.{startAt, sizeAt, place, reached, segments, s
 use Rattle.runfile.specs.Promises.{bodiesCheck, judgeCheck, fileTotals}
 use Rattle.demands.specs.Demand1 as claim
 use Rattle.demands.specs.Demand1.{Condition, plain, firstOf, In, Sized, SharedAddress, WrongSize, NotZero, EntryFails, SegmentFails}
-use Rattle.demands.specs.Demand1.{memoryLength, layoutConditions, traceConditions, stepConditions, requestConditions, lengthConditions}
+use Rattle.demands.specs.Demand1.{memoryLength, layoutConditions, traceConditions, stepConditions, readerConditions, requestConditions, lengthConditions}
 use Rattle.demands.specs.Demand1.{attestCall, fileCall, Answers}
 use Rattle.demands.proofs.Conditions.{Tells, tells-lt, tells-ge, tells-le, tells-eq, tells-ne, tells-not, tells-or, tells-and}
-use Rattle.demands.proofs.Conditions.{tells-lacks, tells-as, tells-flat, tells-some, Once, once-none, once-plain, once-first}
-use Rattle.demands.proofs.Conditions.{Follows, follows-none, follows-plain, follows-first, follows-then, Rows, answers-told, lent-kept}
+use Rattle.demands.proofs.Conditions.{tells-lacks, tells-as, tells-flat, tells-some, Once, once-none, once-placed, once-plain, once-first}
+use Rattle.demands.proofs.Conditions.{Follows, follows-none, follows-placed, follows-plain, follows-first, follows-then, Rows, answers-told, lent-kept}
 
 -- ---- 2 to 6: the layout
 
@@ -156,10 +164,13 @@ tells-not-zero b k =
       step-byte b k 11 (omega arith),
     ) (tells-set (getD b (12 * k + 6) 0) (getD b (12 * k + 9) 0) (getD b (12 * k + 10) 0) (getD b (12 * k + 11) 0))
 
+tells-length : (b : List ℕ) → Tells (misfits b) ((length b % 12 ≢ 0) ⊎ (4096 < count b))
+tells-length b = tells-or (tells-ne (length b % 12) 0) (tells-lt 4096 (count b))
+
 follows-trace : (b room : List ℕ) → Follows (traceConditions b room) (traceCheck b (length room))
 unfolding traceCheck
 follows-trace b room =
-    follows-plain 7 (tells-or (tells-ne (length b % 12) 0) (tells-lt 4096 (count b))) (λ d.
+    follows-plain 7 (tells-length b) (λ d.
     follows-plain 8 (tells-lt (length room) (4 * count b)) (λ e.
     follows-first 9 (count b) (unclean b) (tells-not-zero b) (λ f. follows-none)))
 
@@ -175,6 +186,46 @@ follows-step b room =
 
 once-step : (b room : List ℕ) → Once (stepConditions b room)
 once-step b room = once-plain (once-plain (once-plain once-none))
+
+-- ---- 7 and 9: a reader at a place
+
+-- what it refuses, and what it tells if it does not: a step, or nothing at the end
+abbrev readCheck : List ℕ → ℕ → Answer
+readCheck b p =
+    pick (misfits b) (refusedAt traceSize 0)
+    (pick (not (leb (count b) p) && unclean b p) (refusedAt stepNotZero p) call.Done)
+
+abbrev readValues : List ℕ → ℕ → List ℕ
+readValues b p = pick (leb (count b) p) [] (stepValues (steps b p))
+
+read-picked : (m e u : Bool) (p : ℕ) (s : Step)
+    → readRow (pick m (reads.refusedAt traceSize 0) (pick e read.End (pick u (reads.refusedAt stepNotZero p) (read.Step s))))
+    ≡ told (pick m (refusedAt traceSize 0) (pick (not e && u) (refusedAt stepNotZero p) call.Done)) (pick e [] (stepValues s))
+read-picked true e u p s = refl
+read-picked false true u p s = refl
+read-picked false false true p s = refl
+read-picked false false false p s = refl
+
+read-told : (b : List ℕ) (p : ℕ) → readRow (readAt b p) ≡ told (readCheck b p) (readValues b p)
+unfolding readAt
+read-told b p = read-picked (misfits b) (leb (count b) p) (unclean b p) p (steps b p)
+
+not-one : (e : Bool) (s : Step) → length (pick e [] (stepValues s)) ≢ 1
+not-one true s = λ h. omega arith
+not-one false s = λ h. omega arith
+
+follows-reader : (b : List ℕ) (p : ℕ) → Follows (readerConditions b p) (readCheck b p)
+follows-reader b p =
+    follows-plain 7 (tells-length b) (λ d.
+    follows-placed 9 p
+    (tells-and (tells-as (λ h. omega arith) (λ h. omega arith) (tells-not (tells-le (count b) p))) (tells-not-zero b p))
+    (λ e. follows-none))
+
+-- a refusal leaves the place
+refused-place : (r : Read) (a : Answer) (q : Refusal) (v : List ℕ) (p : ℕ) → readRow r ≡ told a v → a ≡ call.Refused q → placeAfter r p ≡ p
+refused-place (read.Step s) a q v p e f = absurd (let z : _≡_ {A = ℕ} 11 2 = ap length (e ∙ ap (λ (x : Answer). told x v) f) in omega arith)
+refused-place read.End a q v p e f = refl
+refused-place (read.Refused r) a q v p e f = refl
 
 -- ---- 10 and 11: a request
 
@@ -296,6 +347,9 @@ stepped-rows = record { refuses = λ q. refl; settled = stepped-row-settled }
 verdict-rows : Rows Verdict station.row verdict.Refused
 verdict-rows = record { refuses = λ q. refl; settled = verdict-settled }
 
+read-rows : Rows Read readRow read.Refused
+read-rows = record { refuses = λ q. refl; settled = read-row-settled }
+
 call-rows : Rows Answer A.row call.Refused
 call-rows = record { refuses = λ q. refl; settled = row-settled }
 
@@ -375,3 +429,20 @@ finish-answers s r p = length-answers (r .answer) Unit (tells-lt 131072 (s .tota
 pub mac-answers : claim.MacAnswers
 mac-answers k m r p =
     length-answers (r .answer) Unit (tells-or (tells-lt 65536 (length k)) (tells-lt 65536 (length m))) (p .answered) (λ e. tt)
+
+pub lent-take-in-answers : claim.LentTakeInAnswers
+lent-take-in-answers s x s′ r p = take-in-answers s x (record { answer = r; state = s′ }) p
+
+pub lent-finish-answers : claim.LentFinishAnswers
+lent-finish-answers s r p = finish-answers s r p
+
+pub reader-answers : claim.ReaderAnswers
+reader-answers h h′ r p =
+    let b : List ℕ = now (h .trace) in
+    let k : ℕ = h .place in
+    let told-so : readRow r ≡ told (readCheck b k) (readValues b k) = p .advanced .answered ∙ read-told b k in
+    answers-told _ (readValues b k) r read-rows (once-plain (once-placed once-none)) (follows-reader b k)
+    (not-one (leb (count b) k) (steps b k)) told-so
+    (λ q e.
+    let place : h′ .place ≡ k = p .advanced .moved ∙ refused-place (readAt b k) (readCheck b k) q (readValues b k) k (read-told b k) e in
+    λ i. record { trace = p .holds i; place = place i })

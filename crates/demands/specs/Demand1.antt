@@ -8,12 +8,14 @@ use mathlib.Core.Bool.{false}
 use mathlib.Core.List.{List, [], _∷_, _++_}
 use Prim.Native.Nat.{ℕ, _+_, _*_, _%_, _≤_, _<_}
 use lib.ListN.{length, getD}
+use denote.Ref.{now}
 use Rattle.refusal.specs.declared.Answer.{Answer}
 use Rattle.refusal.specs.declared.Answer.the-variants as call
 use Rattle.sha256.specs.declared.Sha.{Sha}
 use Rattle.sha256.specs.declared.Taken.{Taken}
 use Rattle.sha256.specs.declared.Digest.{Digest}
 use Rattle.sha256.specs.Promises.{TakesIn, Finishes, Hashes}
+use Rattle.lent.specs.Promises as lent
 use Rattle.hmac.specs.Hmac.{hmac}
 use Rattle.hmac.specs.Promises.{Macs}
 use Rattle.layout.specs.declared.Region.{Region}
@@ -28,6 +30,10 @@ use Rattle.monitor.specs.declared.Traced.{Traced}
 use Rattle.monitor.specs.declared.Traced.the-variants as traced
 use Rattle.monitor.specs.Runs.{count}
 use Rattle.monitor.specs.Promises.{Steps, Traces}
+use Rattle.reader.specs.declared.Read.{Read}
+use Rattle.reader.specs.declared.Read.the-variants as read
+use Rattle.reader.specs.declared.StepReader.{StepReader}
+use Rattle.reader.specs.Promises.{Reads}
 use Rattle.routine.specs.Strings.{greater}
 use Rattle.board.specs.Memory.{key, counter, challenge, received}
 use Rattle.board.specs.Promises.{Attests}
@@ -45,9 +51,13 @@ pub record Condition : Type 1 where
   pub number : ℕ
   pub At : ℕ → Type 0
 
+-- one at the place q
+abbrev pub placed : ℕ → ℕ → Type 0 → Condition
+placed n q P = record { number = n; At = λ p. (p ≡ q) × P }
+
 -- one for which the page names no place
 abbrev pub plain : ℕ → Type 0 → Condition
-plain n P = record { number = n; At = λ p. (p ≡ 0) × P }
+plain n P = placed n 0 P
 
 -- one whose place is the first of m that fail
 abbrev pub firstOf : ℕ → ℕ → (ℕ → Type 0) → Condition
@@ -120,15 +130,22 @@ NotZero steps k =
     ⊎ (getD steps (12 * k + 10) 0 ≢ 0)
     ⊎ (getD steps (12 * k + 11) 0 ≢ 0)
 
+abbrev pub traceLength : List ℕ → Condition
+traceLength trace = plain 7 ((length trace % 12 ≢ 0) ⊎ (4096 < count trace))
+
 abbrev pub traceConditions : List ℕ → List ℕ → List Condition
 traceConditions trace room =
-    plain 7 ((length trace % 12 ≢ 0) ⊎ (4096 < count trace))
+    traceLength trace
     ∷ plain 8 (length room < 4 * count trace)
     ∷ firstOf 9 (count trace) (NotZero trace)
     ∷ []
 
 abbrev pub stepConditions : List ℕ → List ℕ → List Condition
 stepConditions step room = plain 7 (length step ≢ 12) ∷ plain 8 (length room < 4) ∷ plain 9 (NotZero step 0) ∷ []
+
+-- a reader looks at the step at its place alone, and only where the trace has one
+abbrev pub readerConditions : List ℕ → ℕ → List Condition
+readerConditions trace place = traceLength trace ∷ placed 9 place ((place < count trace) × NotZero trace place) ∷ []
 
 abbrev pub requestConditions : List ℕ → List ℕ → List Condition
 requestConditions memory layout =
@@ -246,3 +263,19 @@ abbrev pub MacAnswers : Type 0
 MacAnswers =
     (k m : List ℕ) (r : Digest) → Macs k m r
     → Answers (lengthConditions ((65536 < length k) ⊎ (65536 < length m))) (DigestRefused r) (Unit {0})
+
+-- an object that is lent and refused is as it was, and one that is finished is lent to be read only
+abbrev pub LentTakeInAnswers : Type 0
+LentTakeInAnswers =
+    (s : Sha) (x : List ℕ) (s′ : Sha) (r : Answer) → lent.TakesIn s x s′ r
+    → Answers (lengthConditions (131072 < s .total + length x)) (λ n p. r ≡ call.Refused (record { number = n; place = p })) (s′ ≡ s)
+
+abbrev pub LentFinishAnswers : Type 0
+LentFinishAnswers =
+    (s : Sha) (r : Digest) → lent.Finishes s r → Answers (lengthConditions (131072 < s .total)) (DigestRefused r) (Unit {0})
+
+-- a reader that refuses holds the same trace and stays at its place
+abbrev pub ReaderAnswers : Type 0
+ReaderAnswers =
+    (h h′ : StepReader) (r : Read) → Reads h h′ r
+    → Answers (readerConditions (now (h .trace)) (h .place)) (λ n p. r ≡ read.Refused (record { number = n; place = p })) (h′ ≡ h)

@@ -42,7 +42,8 @@ use Rattle.demands.specs.Marked.{at}
 use Rattle.demands.specs.Script as claim
 use Rattle.demands.specs.Visit.{Free, Plays, storeAt, storeByte, played}
 use Rattle.demands.specs.Script.{flags, encode, encoded, scripted, script}
-use Rattle.demands.proofs.Runs.{Alike, alike, in-parts}
+use Rattle.monitor.proofs.Runs.{Alike, alike}
+use Rattle.demands.proofs.Runs.{in-parts}
 use Rattle.demands.proofs.Traces.{release}
 use Rattle.demands.proofs.Visit.{visit-passes, leaves-freely, visit-attests, can-be-played}
 

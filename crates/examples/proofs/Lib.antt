@@ -1,3 +1,4 @@
 pub mod Causes
 pub mod Refusals
 pub mod PageCase
+pub mod Readings

@@ -1,3 +1,4 @@
 pub mod PageCase
 pub mod Refusals
 pub mod Causes
+pub mod Readings

@@ -11,7 +11,7 @@ abbrev pub entry : ℕ → ℕ → List ℕ
 entry offset size = offset ∷ 0 ∷ 0 ∷ 0 ∷ size ∷ 0 ∷ 0 ∷ 0 ∷ []
 
 -- the first seven bytes of a step; the other five are 0
-abbrev step : ℕ → ℕ → ℕ → ℕ → ℕ → ℕ → ℕ → List ℕ
+abbrev pub step : ℕ → ℕ → ℕ → ℕ → ℕ → ℕ → ℕ → List ℕ
 step a b c d e f g = a ∷ b ∷ c ∷ d ∷ e ∷ f ∷ g ∷ 0 ∷ 0 ∷ 0 ∷ 0 ∷ 0 ∷ []
 
 abbrev pub file : List ℕ

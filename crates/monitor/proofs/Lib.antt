@@ -3,3 +3,4 @@ pub mod Laws
 pub mod Checks
 pub mod Turns
 pub mod Calls
+pub mod Runs

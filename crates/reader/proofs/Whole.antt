@@ -23,6 +23,7 @@ use Rattle.monitor.specs.declared.Traced.the-variants as traced
 use Rattle.monitor.specs.Runs.{State, answerSize, count, steps, begin, before, answers, resetting, totals}
 use Rattle.monitor.specs.Promises.{misfits, unclean, firstUnclean, traceCheck, Traces}
 use Rattle.monitor.proofs.Checks.{trace-passed, traced-judged}
+use Rattle.monitor.proofs.Runs.{alike}
 use Rattle.reader.specs.declared.Read.{Read}
 use Rattle.reader.specs.declared.Read.the-variants as read
 use Rattle.reader.specs.declared.StepReader.{StepReader}
@@ -30,7 +31,6 @@ use Rattle.reader.specs.Reading.{readAt, placeAfter}
 use Rattle.reader.specs.Settled.{read-row-settled}
 use Rattle.reader.specs.Whole.{Reading, HandsOut, ReadsWhole, JudgesWhatIsRead, ReadsToUnclean, ReadsNothing}
 use Rattle.reader.proofs.Laws.{read-nothing, read-end, read-unclean, read-step, IsStep}
-use Rattle.reader.proofs.Runs.{alike}
 
 -- ---- a reader that is read over and over
 

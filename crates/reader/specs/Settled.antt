@@ -4,7 +4,7 @@ use mathlib.Core.List.{List}
 use Prim.Native.Nat.{ℕ}
 use native.Mathlib.Omega.{arith}
 use lib.ListN.{length}
-use denote.Ref.{RefT, now}
+use denote.Ref.{RefT}
 use Rattle.refusal.specs.Settled.{row-settled}
 use Rattle.refusal.specs.declared.Answer.the-variants as call
 use Rattle.rules.specs.declared.Step.{Step}

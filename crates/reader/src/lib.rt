@@ -2,7 +2,6 @@
 // The functions over it are thin. What they answer is worked out by `read_on`, on the bytes and the number.
 use refusal::Refusal;
 use rules::Step;
-ghost use mathlib.Core.Path.{_≡_};
 ghost use Rattle.reader.specs.Promises as P;
 
 pub struct StepReader<'a> {

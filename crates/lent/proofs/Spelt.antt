@@ -15,7 +15,6 @@ use denote.Plain.{UInt}
 use denote.Builtin.{u8, u32}
 use denote.Enum.Laws as EL
 use denote.Struct.Laws as LL
-use Rattle.refusal.specs.declared.Answer.{Answer}
 use Rattle.refusal.proofs.Answer as N
 use Rattle.refusal.proofs.Answer.Laws as N′
 use Rattle.sha256.specs.declared.Sha.{Sha}

@@ -4,7 +4,6 @@ use refusal::Answer;
 use sha256::Digest;
 use sha256::Sha;
 use sha256::Taken;
-ghost use mathlib.Core.Path.{_≡_};
 ghost use Rattle.lent.specs.Promises as P;
 
 // A digest, and the state that it is of.
@@ -78,17 +77,32 @@ fn lend_finish(state: Sha) -> Finished
 pub fn start_at(words: [u32; 8], block: [u8; 64], total: u64) -> Sha
     ensures { λ r. ⌜ P.Starts r ⌝ }
 {
-    lend_start(Sha { words, block, total })
+    let object = Sha {
+        words,
+        block,
+        total,
+    };
+    lend_start(object)
 }
 
 pub fn take_in_at(words: [u32; 8], block: [u8; 64], total: u64, bytes: &[u8]) -> Taken
     ensures { λ r. ⌜ P.TakesIn (P.object words block total) (now (bytes .entry)) (r .state) (r .answer) ⌝ }
 {
-    lend_take_in(Sha { words, block, total }, bytes)
+    let object = Sha {
+        words,
+        block,
+        total,
+    };
+    lend_take_in(object, bytes)
 }
 
 pub fn finish_at(words: [u32; 8], block: [u8; 64], total: u64) -> Finished
     ensures { λ r. ⌜ P.FinishesLent (P.object words block total) r ⌝ }
 {
-    lend_finish(Sha { words, block, total })
+    let object = Sha {
+        words,
+        block,
+        total,
+    };
+    lend_finish(object)
 }

@@ -53,16 +53,20 @@ class Made(NamedTuple):
     left: Union[Lent, Reader]
 
 
-def lent_of(state: bytes) -> Lent:
-    *words, block, total = STATE.unpack(state)
+def lent_of(given: list[bytes]) -> Lent:
+    *words, block, total = STATE.unpack(given[0])
     return Lent(tuple(words), bytearray(block), total)
+
+
+def reader_of(given: list[bytes]) -> Reader:
+    return Reader(given[0], *PLACE.unpack(given[1]))
 
 
 def made(number: int, given: list[bytes]) -> Made:
     if number == NEXT_CALL:
-        reader = Reader(given[0], *PLACE.unpack(given[1]))
+        reader = reader_of(given)
         return Made(number, given, reader.next(), reader)
-    lent = lent_of(given[0])
+    lent = lent_of(given)
     if number == START_CALL:
         lent.start()
         return Made(number, given, None, lent)
@@ -92,11 +96,10 @@ def left_line(done: Made) -> str:
 # What the calls have to meet, so that the comparison does not go blind.
 
 
-def hash_met(done: Made) -> Iterator[str]:
+def hash_met(done: Made, kind: str) -> Iterator[str]:
     """What a call of the running hash meets."""
-    lent, kind = lent_of(done.arguments[0]), f"{answer_line(done).split()[0]} by call {done.number}"
+    lent = lent_of(done.arguments)
     total = lent.total + sum(map(len, done.arguments[1:]))
-    yield kind
     if any(lent.block[lent.total % 64 :]):
         yield f"{kind} with a stale tail"
         if done.arguments[1:] == [b""]:
@@ -110,21 +113,18 @@ def hash_met(done: Made) -> Iterator[str]:
         yield f"{kind} with {total % 64} bytes filled"
 
 
-def reader_met(done: Made) -> Iterator[str]:
+def reader_met(done: Made, kind: str) -> Iterator[str]:
     """What a call of the reader meets."""
     trace, (place,) = done.arguments[0], PLACE.unpack(done.arguments[1])
-    kind = " ".join(answer_line(done).split()[: 2 if isinstance(done.answer, Refusal) else 1])
-    yield kind
-    steps = [trace[at : at + STEP] for at in range(0, len(trace), STEP)]
-    numbers = [int.from_bytes(step, "little") for step in steps]
+    numbers = [int.from_bytes(trace[at : at + STEP], "little") for at in range(0, len(trace), STEP)]
     soiled = [number for number, step in enumerate(numbers) if any(step >> bit & 1 for bit in ZEROS)]
-    if place >= len(steps):
+    if place >= len(numbers):
         yield f"{kind} past the end"
     for bits in (32, 64):
         if STEP * place >= 2**bits and STEP * place % 2**bits + STEP <= len(trace):
             yield f"{kind} where {bits} bits of 12 times the place are in the trace"
-    if place < len(steps):
-        yield from (f"{kind} for bit {bit}" for bit in ZEROS if numbers[place] == numbers[place] | 1 << bit)
+    if place < len(numbers):
+        yield from (f"{kind} with bit {bit} set" for bit in ZEROS if numbers[place] >> bit & 1)
         if any(number < place for number in soiled):
             yield f"{kind} behind an unclean step"
         if any(number > place for number in soiled):
@@ -136,19 +136,32 @@ def reader_met(done: Made) -> Iterator[str]:
     yield f"{kind} of a trace with {len(trace) % STEP} bytes over"
 
 
+def met(done: Made, before: Optional[Made]) -> Iterator[str]:
+    """What a call meets: its answer, whether it is lent what the call before left, and more."""
+    reads = done.number == NEXT_CALL
+    kind = f"refused {done.answer.number}" if isinstance(done.answer, Refusal) else answer_line(done).split()[0]
+    kind += "" if reads else f" by call {done.number}"
+    yield kind
+    if before and before.left == (reader_of if reads else lent_of)(done.arguments):
+        yield f"{kind} on what the call before left"
+    yield from (reader_met if reads else hash_met)(done, kind)
+
+
 def least() -> dict[str, int]:
     """How often each has to be met at least."""
-    twenty = ["started by call 0", "taken by call 11", "refused by call 11", "refused by call 12", "hash by call 12"]
-    twenty += ["step", "end", "refused 7", "refused 9"]
-    twenty += [f"{kind} with a stale tail" for kind in twenty[1:5]] + ["taken by call 11 of nothing with a stale tail"]
-    five = [f"refused by call 11 where {bits} bits of the total are within the limit" for bits in (32, 64)]
+    hashed = ["taken by call 11", "refused 12 by call 11", "hash by call 12", "refused 12 by call 12"]
+    twenty = [*hashed, "started by call 0", "step", "end", "refused 7", "refused 9"]
+    twenty += [f"{kind} with a stale tail" for kind in hashed] + ["taken by call 11 of nothing with a stale tail"]
+    twenty += ["step on what the call before left"]
+    five = [f"refused 12 by call 11 where {bits} bits of the total are within the limit" for bits in (32, 64)]
     five += [f"end where {bits} bits of 12 times the place are in the trace" for bits in (32, 64)]
-    five += ["taken by call 11 at 131072", "refused by call 11 at 131073"]
-    five += ["refused by call 12 where 32 bits of the total are within the limit", "refused 7 past the end"]
+    five += ["taken by call 11 at 131072", "refused 12 by call 11 at 131073"]
+    five += ["refused 12 by call 12 where 32 bits of the total are within the limit", "refused 7 past the end"]
+    five += [f"{kind} on what the call before left" for kind in (*hashed, "end", "refused 9")]
     five += ["step before an unclean step", "step behind an unclean step", "step that writes with no DMA"]
     once = [f"hash by call 12 with {filled} bytes filled" for filled in range(64)]
-    once += ["hash by call 12 at 131072", "refused by call 12 at 131073", "refused 7 for bit 53"]
-    once += [f"refused 9 for bit {bit}" for bit in ZEROS]
+    once += ["hash by call 12 at 131072", "refused 12 by call 12 at 131073", "refused 7 with bit 53 set"]
+    once += [f"refused 9 with bit {bit} set" for bit in ZEROS]
     once += [f"refused 7 of a trace with {over} bytes over" for over in range(STEP)]
     once += ["step of 49152 bytes", "end of 49152 bytes", "refused 7 of 49164 bytes"]
     return {**dict.fromkeys(twenty, 20), **dict.fromkeys(five, 5), **dict.fromkeys(once, 1)}
@@ -156,16 +169,17 @@ def least() -> dict[str, int]:
 
 def printed(given: bytes, tally: Counter[str]) -> Iterator[str]:
     """The lines for an input. What its calls meet is counted."""
-    left = BytesIO(given)
-    while number := left.read(1):
+    rest, before = BytesIO(given), None
+    while number := rest.read(1):
         try:
-            done = made(number[0], arguments(left, number[0]))
+            done = made(number[0], arguments(rest, number[0]))
         except Cut:
             yield "cut"
             return
-        tally.update((reader_met if number[0] == NEXT_CALL else hash_met)(done))
+        tally.update(met(done, before))
         yield answer_line(done)
         yield left_line(done)
+        before = done
 
 
 def files() -> dict[str, bytes]:

@@ -192,6 +192,18 @@ def last_bytes(draw: Draw) -> Iterator[Call]:
         yield from chain.calls
 
 
+def too_many(draw: Draw) -> Iterator[Call]:
+    """An object with a total over the limit stays as it is until it is started."""
+    for total in (LIMIT + 1, 2**32, 2**64 - 64, 2**64 - 1):
+        chain = Chain(any_state(draw, total))
+        for part in (0, 1, 64):
+            chain.take_in(full(draw, part))
+            chain.finish()
+        chain.start()
+        chain.finish()
+        yield from chain.calls
+
+
 # The step reader.
 
 
@@ -286,7 +298,9 @@ def any_traces(draw: Draw) -> Iterator[Call]:
 
 
 def calls(draw: Draw) -> Iterator[Call]:
-    for maker in (edges, limits, wrapping, single_bits, fillings, long_ones, any_takings, starts, messages, last_bytes):
+    for maker in (edges, limits, wrapping, single_bits, fillings, long_ones, any_takings, starts):
+        yield from maker(draw)
+    for maker in (messages, last_bytes, too_many):
         yield from maker(draw)
     yield from single_step_bits()
     for maker in (places, walks, unclean, wrong_lengths, long_traces, any_traces):

@@ -1,4 +1,4 @@
-// The lines that tell what a call answered, and what it left. Bytes stand in the order in which they are given.
+// The lines that tell what a call answered, and what it left. Of a number in hex the lowest byte comes first.
 use lent::Finished;
 use libc::STDOUT_FILENO;
 use reader::Advance;

@@ -79,11 +79,12 @@ impl<'a> StepReader<'a> {
     }
 }
 
-// The same without a reader in hand: one is made at this place, lent to `next`, and asked for its place.
+// The same without a reader in hand: one is made, put at this place, lent to `next`, and asked for its place.
 pub fn next_at(trace: &[u8], place: usize) -> Advance
     ensures { λ r. ⌜ P.Advances (now (trace .entry)) place r ⌝ }
 {
-    let mut reader = StepReader { trace, place };
+    let mut reader = StepReader::new(trace);
+    reader.place = place;
     let read = reader.next();
     Advance {
         read,

@@ -1,4 +1,4 @@
--- `StepReader::new` meets its contract: a walk of its MIR, by hand. A `StepReader` is made of the slice passed and 0, in the result's local.
+-- `StepReader::new` meets its contract: a walk of its code, by hand. A `StepReader` is made of the slice passed and 0, in the result's local.
 -- A `&[u8]` is Copy, so what it owns is had twice: once for the trace at exit, and once inside the result, beside the facts of the place.
 -- Assumes nothing.
 use mathlib.Core.Path.{refl}

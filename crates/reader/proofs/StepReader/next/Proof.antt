@@ -1,4 +1,4 @@
--- `StepReader::next` meets its contract: a walk of its MIR, by hand. The borrow of the struct is opened, the slice and the number are copied out of it, `read_on` is called on them while the borrow stands open, the number that it hands back is stored, and the borrow is closed at the struct with that number.
+-- `StepReader::next` meets its contract: a walk of its code, by hand. The borrow of the struct is opened, the slice and the number are copied out of it, `read_on` is called on them while the borrow stands open, the number that it hands back is stored, and the borrow is closed at the struct with that number.
 -- All that the proof knows of `read_on` is that it meets its contract.
 -- Assumes nothing.
 use mathlib.Core.Path.{refl, ap}

@@ -7,7 +7,7 @@ use native.Mathlib.Omega.{arith}
 use lib.ListN.{length, drop, replicate, length-append}
 use lib.Seq.{drop-at}
 use Rattle.refusal.specs.Choice.{pick}
-use Rattle.refusal.specs.Answers.{row, done, refusedIf}
+use Rattle.refusal.specs.Answers.{row, done, refusedAt, refusedIf}
 use Rattle.refusal.specs.Numbers.{lengthOrTotal}
 use Rattle.refusal.specs.declared.Answer.{Answer}
 use Rattle.refusal.specs.declared.Answer.the-variants.{Done, Refused}
@@ -51,6 +51,28 @@ refused-is-kept s x s′ r p =
     (λ e. absurd (let u : _≡_ {A = ℕ} 0 1 = cc in omega arith)) (p .handed)
 
 -- ---- a message in parts
+
+-- the object before part k, and the answer
+objects-of : (ℕ → List ℕ) → ℕ → Sha
+objects-of parts zero = started
+objects-of parts (suc k) =
+    let s = objects-of parts k in
+    pick (over (s .total + length (parts k))) s (taken s (parts k))
+
+abbrev answer-of : Bool → Answer
+answer-of t = pick t (refusedAt lengthOrTotal 0) Done
+
+answer-row : (t : Bool) → row (answer-of t) ≡ refusedIf t lengthOrTotal
+answer-row true = refl
+answer-row false = refl
+
+pub can-be-fed : claim.CanBeFed
+unfolding objects-of
+can-be-fed parts n = (
+  objects-of parts,
+  λ k. answer-of (over (objects-of parts k .total + length (parts k))),
+  record { begins = refl; goes-on = λ k h. record { answered = answer-row (over (objects-of parts k .total + length (parts k))); handed = refl } },
+)
 
 taken-none : taken started [] ≡ started
 unfolding started

@@ -29,7 +29,7 @@ use Rattle.reader.specs.declared.Read.the-variants as read
 use Rattle.reader.specs.declared.StepReader.{StepReader}
 use Rattle.reader.specs.Reading.{readAt, placeAfter}
 use Rattle.reader.specs.Settled.{read-row-settled}
-use Rattle.reader.specs.Whole.{Reading, HandsOut, ReadsWhole, JudgesWhatIsRead, ReadsToUnclean, ReadsNothing}
+use Rattle.reader.specs.Whole.{Reading, HandsOut, CanBeRead, ReadsWhole, JudgesWhatIsRead, ReadsToUnclean, ReadsNothing}
 use Rattle.reader.proofs.Laws.{read-nothing, read-end, read-unclean, read-step, IsStep}
 
 -- ---- a reader that is read over and over
@@ -71,6 +71,23 @@ module _ (trace : RefT (List ℕ)) (reader : ℕ → StepReader) (said : ℕ →
     }
 
 -- ---- the claims
+
+-- the place before call k
+places : List ℕ → ℕ → ℕ
+places b zero = 0
+places b (suc k) = placeAfter (readAt b (places b k)) (places b k)
+
+pub can-be-read : CanBeRead
+unfolding places
+can-be-read trace =
+    let b = now trace in (
+      λ k. record { trace = trace; place = places b k },
+      λ k. readAt b (places b k),
+      record {
+        begins = record { holds = refl; at-first = refl };
+        goes-on = λ k. record { advanced = record { answered = refl; moved = rw add-one refl }; holds = refl };
+      },
+    )
 
 not-misfits : (b : List ℕ) (room : ℕ) → traceCheck b room ≡ call.Done → misfits b ≡ false
 unfolding traceCheck

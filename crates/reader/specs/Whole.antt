@@ -24,6 +24,10 @@ pub record Reading (trace : RefT (List ℕ)) (reader : ℕ → StepReader) (said
   pub begins : Begins trace (reader 0)
   pub goes-on : (k : ℕ) → Reads (reader k) (reader (k + 1)) (said k)
 
+-- every trace can be read so
+abbrev pub CanBeRead : Type 0
+CanBeRead = (trace : RefT (List ℕ)) → (reader : ℕ → StepReader) × (said : ℕ → Read) × Reading trace reader said
+
 -- the first n answers are these steps, and all further ones are e
 pub record HandsOut (said : ℕ → Read) (n : ℕ) (s : ℕ → Step) (e : Read) : Type 0 where
   pub handed : (k : ℕ) → k < n → said k ≡ read.Step (s k)

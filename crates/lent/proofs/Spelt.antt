@@ -1,8 +1,8 @@
 -- A state and what is handed back with it, as their machine values are written: `lowered`, in which an array is the list itself.
 --     told-is      what a row relates to a value at all it relates to the machine values that it tells; low-is: to that one
---     as-array     what is known of an array in a struct is known of the list itself, and back (as-field)
+--     as-array     what is known of an array in a struct is known of the list itself
 -- Assumes nothing.
-use mathlib.Core.Path.{_≡_, refl, sym, subst}
+use mathlib.Core.Path.{_≡_, refl, subst}
 use mathlib.Core.List.{List, [], _∷_, map}
 use Prim.Native.Nat.{ℕ, _<_, _^_}
 use mir.Syntax.{Width, w8, w32}
@@ -43,9 +43,6 @@ ArrayIs w n xs = Is (Array (UInt w) n) xs (array-val w xs ∷ [])
 
 as-array : (w : Width) (n : ℕ) (xs : List ℕ) → ArrayIs w n (map (λ (v : ℕ). v) xs) → ArrayIs w n xs
 as-array w n xs = subst (ArrayIs w n) (map-id xs)
-
-as-field : (w : Width) (n : ℕ) (xs : List ℕ) → ArrayIs w n xs → ArrayIs w n (map (λ (v : ℕ). v) xs)
-as-field w n xs = subst (ArrayIs w n) (sym (map-id xs))
 
 -- ---- the fields of a state
 

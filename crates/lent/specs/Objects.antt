@@ -26,7 +26,7 @@ pub record Fed (parts : ℕ → List ℕ) (n : ℕ) (objects : ℕ → Sha) (ans
   pub begins : Starts (objects 0)
   pub goes-on : (k : ℕ) → k < n → TakesIn (objects k) (parts k) (objects (suc k)) (answers k)
 
--- every object can be fed so, with any parts
+-- any parts can be fed so
 abbrev pub CanBeFed : Type 0
 CanBeFed = (parts : ℕ → List ℕ) (n : ℕ) → (objects : ℕ → Sha) × (answers : ℕ → Answer) × Fed parts n objects answers
 

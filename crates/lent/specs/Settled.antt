@@ -30,5 +30,6 @@ finishes-settled s r q p p′ = byValueSettled.finishes-settled s r q p p′
 
 pub finishes-lent-settled : (s : Sha) (r q : Finished) → FinishesLent s r → FinishesLent s q → r ≡ q
 finishes-lent-settled s r q p p′ =
-    ap (λ (d : Digest). record { digest = d; state = r .state }) (finishes-settled s (r .digest) (q .digest) (p .finished) (p′ .finished))
-    ∙ ap (λ (u : Sha). record { digest = q .digest; state = u }) (p .kept ∙ sym (p′ .kept))
+    let digest = finishes-settled s (r .digest) (q .digest) (p .finished) (p′ .finished) in
+    let state = p .kept ∙ sym (p′ .kept) in
+    λ i. record { digest = digest i; state = state i }

@@ -2,3 +2,4 @@ pub mod Tests
 pub mod First
 pub mod Order
 pub mod Bytes
+pub mod Laid

@@ -2,20 +2,14 @@
 use mathlib.Core.Path.{_≡_, refl, ap, sym, subst, _∙_}
 use mathlib.Core.List.{List, [], _∷_, _++_}
 use Prim.Native.Nat.{ℕ, suc, _+_, _≤_, _<_}
-use native.Mathlib.Nat.{add-zero}
 use native.Mathlib.Numerals.{add-one}
 use native.Mathlib.Omega.{arith}
 use lib.ListN.{length, getD, set, take, drop, length-append}
-use lib.Seq.{sets, drop-nil, set-out, take-suc, take-length}
+use lib.Seq.{sets, set-out, take-suc, take-length}
+use Rattle.refusal.proofs.Laid.{sets-append}
 use Rattle.monitor.specs.declared.StepAnswer.{StepAnswer}
 use Rattle.report.specs.Text.{line, lines}
 use Rattle.report.specs.Writing.{Wrote}
-
-sets-append : (a b l : List ℕ) (i : ℕ) → sets (sets l i a) (i + length a) b ≡ sets l i (a ++ b)
-sets-append [] b l i = rw add-zero
-sets-append (x ∷ a) b l i =
-    let e : i + suc (length a) ≡ suc i + length a = omega arith in
-    rw e (sets-append a b (set l i x) (suc i))
 
 -- one text and then another
 pub then : {a b c : List ℕ} {i j k : ℕ} {s t : List ℕ} → Wrote a b i s j → Wrote b c j t k → Wrote a c i (s ++ t) k
@@ -61,17 +55,3 @@ line-more answer a o₀ o o′ from at i r e v w =
 pub lines-whole : (answer : ℕ → StepAnswer) (o o′ : List ℕ) (from at i n : ℕ) → i ≡ n → Wrote o o′ from (lines answer i) at
     → Wrote o o′ from (lines answer n) at
 lines-whole answer o o′ from at i n e v = subst (λ (k : ℕ). Wrote o o′ from (lines answer k) at) e v
-
--- a text from the start on: as much as fits, and what stood behind it
-sets-nil : (i : ℕ) (t : List ℕ) → sets [] i t ≡ []
-sets-nil i [] = refl
-sets-nil i (a ∷ t) = sets-nil (suc i) t
-
-sets-cons : (x : ℕ) (l : List ℕ) (i : ℕ) (t : List ℕ) → sets (x ∷ l) (suc i) t ≡ x ∷ sets l i t
-sets-cons x l i [] = refl
-sets-cons x l i (a ∷ t) = sets-cons x (set l i a) (suc i) t
-
-pub cut : (l t : List ℕ) → sets l 0 t ≡ take (length l) t ++ drop (length t) l
-cut [] t = sets-nil 0 t ∙ sym (drop-nil (length t))
-cut (x ∷ l) [] = refl
-cut (x ∷ l) (a ∷ t) = sets-cons a l 0 t ∙ ap (λ (r : List ℕ). a ∷ r) (cut l t)

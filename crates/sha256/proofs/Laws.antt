@@ -2,9 +2,9 @@
 use mathlib.Core.Path.{_≡_, refl, sym, ap, subst, _∙_}
 use mathlib.Core.Bool.{Bool, false}
 use mathlib.Core.List.{List, _++_}
-use Prim.Native.Nat.{ℕ, _+_, _≤_}
+use Prim.Native.Nat.{ℕ, _+_, _^_, _≤_}
 use native.Mathlib.Omega.{arith}
-use borrow.Author.Tests.{le-ltb}
+use borrow.Author.Tests.{le-ltb, lt-leb}
 use lib.ListN.{length, length-append}
 use Rattle.refusal.specs.Answers.{row, done}
 use Rattle.sha256_block.specs.Words.{bytes}
@@ -15,7 +15,7 @@ use Rattle.sha256.specs.declared.Taken.{Taken}
 use Rattle.sha256.specs.declared.Digest.{Digest}
 use Rattle.sha256.specs.Hash.{padding, out, sha256}
 use Rattle.sha256.specs.Running.{filled, rest, started, taken, digest}
-use Rattle.sha256.specs.Promises.{limit, over, Gives, Starts, TakesIn, Finishes, Hashes}
+use Rattle.sha256.specs.Promises.{limit, over, Gives, Starts, TakesIn, Finishes, Digests, Hashes}
 use Rattle.sha256.specs.Settled.{gives-settled, takes-in-settled}
 use Rattle.sha256.proofs.Running.{whole-rest, filled-taken, taken-twice}
 
@@ -63,6 +63,10 @@ digest-taken m =
 
 pub over-not : (n : ℕ) → n ≤ limit → over n ≡ false
 over-not n h = le-ltb limit n h
+
+-- what `hash` takes is far below what the standard takes
+pub within-standard : (m : List ℕ) {r : List ℕ} → Digests m r → length m ≤ limit → r ≡ sha256 m
+within-standard m p h = rw (lt-leb (2 ^ 61) (length m) (omega (arith, h))) at p
 
 pub gives-bytes : {t : Bool} {b : List ℕ} {r : Digest} → Gives t b r → t ≡ false → r .bytes ≡ b
 gives-bytes p e = rw e at (p .given)

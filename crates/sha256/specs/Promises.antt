@@ -1,11 +1,11 @@
--- What the public functions promise, for all inputs. `Starts`, `TakesIn`, `Finishes` and `Hashes` are the contracts of the functions
+-- What the public functions promise, for all inputs. `Starts`, `TakesIn`, `Finishes`, `Digests` and `Hashes` are the contracts of the functions
 -- so named; `Gives` is the shape of every answer of 32 bytes, here and in the crates above.
 -- Assumes nothing.
 use mathlib.Core.Path.{_≡_}
 use mathlib.Core.Bool.{Bool}
 use mathlib.Core.List.{List}
-use Prim.Native.Nat.{ℕ, _+_}
-use lib.Dec.{ltb}
+use Prim.Native.Nat.{ℕ, _+_, _^_}
+use lib.Dec.{ltb, leb}
 use lib.ListN.{length, replicate}
 use Rattle.refusal.specs.Numbers.{lengthOrTotal}
 use Rattle.refusal.specs.Choice.{pick}
@@ -41,6 +41,14 @@ pub record TakesIn (s : Sha) (x : List ℕ) (r : Taken) : Type 0 where
 -- `Sha::finish`: refused exactly if the total is over the limit
 abbrev pub Finishes : Sha → Digest → Type 0
 Finishes s r = Gives (over (s .total)) (digest s) r
+
+-- the standard has a digest of messages whose length in bits is below 2^64
+abbrev pub beyond : ℕ → Bool
+beyond n = leb (2 ^ 61) n
+
+-- `digest_of`: of any message of the standard
+abbrev pub Digests : List ℕ → List ℕ → Type 0
+Digests m r = r ≡ pick (beyond (length m)) (replicate 32 0) (sha256 m)
 
 -- `hash`: refused exactly if the message is over the limit
 abbrev pub Hashes : List ℕ → Digest → Type 0

@@ -229,6 +229,21 @@ impl Sha {
     }
 }
 
+// The length in bits has to fit 64 bits: below this many bytes the standard has a digest.
+const STANDARD: usize = 2_305_843_009_213_693_952;
+
+// The standard's digest of a message, whatever the limit of `hash`; zeros where the standard has none.
+pub fn digest_of(message: &[u8]) -> [u8; 32]
+    ensures { λ r. ⌜ P.Digests (now (message .entry)) r ⌝ }
+{
+    let n = message.len();
+    if n >= STANDARD {
+        return [0u8; 32];
+    }
+    let words = sha256_block::blocks(sha256_block::initial(), message);
+    last_digest(words, &message[n - n % 64..], n as u64)
+}
+
 // The hash of a message; refused if it is over 131,072 bytes.
 pub fn hash(message: &[u8]) -> Digest
     ensures { λ r. ⌜ P.Hashes (now (message .entry)) r ⌝ }
@@ -236,7 +251,5 @@ pub fn hash(message: &[u8]) -> Digest
     if message.len() as u64 > LIMIT {
         return Digest::refused();
     }
-    let n = message.len();
-    let words = sha256_block::blocks(sha256_block::initial(), message);
-    Digest::given(last_digest(words, &message[n - n % 64..], n as u64))
+    Digest::given(digest_of(message))
 }

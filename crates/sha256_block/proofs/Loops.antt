@@ -1,11 +1,11 @@
 -- One turn of each loop. Assumes nothing.
-use mathlib.Core.Path.{_≡_, refl, sym}
+use mathlib.Core.Path.{_≡_, refl, sym, ap, _∙_}
 use mathlib.Core.List.{List, [], _∷_, _++_}
 use Prim.Native.Nat.{ℕ, _+_, _*_, _<_}
 use native.Mathlib.Numerals.{add-one}
 use native.Mathlib.Omega.{arith}
 use lib.ListN.{length, getD, take, drop, set}
-use lib.Seq.{getD-take}
+use lib.Seq.{getD-take, getD-set-same, getD-set-other}
 use Rattle.sha256_block.specs.declared.Vars.{Vars}
 use Rattle.sha256_block.specs.Words.{word, words}
 use Rattle.sha256_block.specs.Constants.{K}
@@ -26,7 +26,7 @@ unfolding schedule
 schedule-next m n = rw (add-one, add-one)
 
 -- the schedule's next word is made of words that are there
-pub schedule-more : (m w : List ℕ) (n x : ℕ) → n + 16 < length w → take (n + 16) w ≡ schedule m n
+schedule-more : (m w : List ℕ) (n x : ℕ) → n + 16 < length w → take (n + 16) w ≡ schedule m n
     → x ≡ next (getD w (n + 14) 0) (getD w (n + 9) 0) (getD w (n + 1) 0) (getD w n 0)
     → take (n + 1 + 16) (set w (n + 16) x) ≡ schedule m (n + 1)
 schedule-more m w n x h inv e =
@@ -34,6 +34,21 @@ schedule-more m w n x h inv e =
     let p : List ℕ = take (n + 16) w in
     let at : (i : ℕ) → i < n + 16 → getD w i 0 ≡ getD p i 0 = λ i l. sym (getD-take (n + 16) w i 0 l) in
     cc (grown w p (n + 16) x h refl, schedule-next m n, at (n + 14) (omega arith), at (n + 9) (omega arith), at (n + 1) (omega arith), at n (omega arith))
+
+-- the same with the two words before it carried along
+pub schedule-carried : (m w : List ℕ) (n w2 w1 x : ℕ) → n + 16 < length w → take (n + 16) w ≡ schedule m n
+    → w2 ≡ getD w (n + 14) 0 → w1 ≡ getD w (n + 15) 0
+    → x ≡ next w2 (getD w (n + 9) 0) (getD w (n + 1) 0) (getD w n 0)
+    → (take (n + 1 + 16) (set w (n + 16) x) ≡ schedule m (n + 1))
+    × (w1 ≡ getD (set w (n + 16) x) (n + 1 + 14) 0)
+    × (x ≡ getD (set w (n + 16) x) (n + 1 + 15) 0)
+schedule-carried m w n w2 w1 x h inv e2 e1 e =
+    let i : n + 1 + 14 ≡ n + 15 = omega arith in
+    let j : n + 1 + 15 ≡ n + 16 = omega arith in (
+      schedule-more m w n x h inv (e ∙ ap (λ (y : ℕ). next y (getD w (n + 9) 0) (getD w (n + 1) 0) (getD w n 0)) e2),
+      cc (getD-set-other w (n + 16) (n + 15) x 0 (λ q. omega arith)),
+      cc (getD-set-same w (n + 16) x 0 h),
+    )
 
 rounds-next : (w : List ℕ) (v : Vars) (t : ℕ) → rounds w v (t + 1) ≡ round (getD K t 0) (getD w t 0) (rounds w v t)
 unfolding rounds

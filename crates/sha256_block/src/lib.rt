@@ -71,15 +71,21 @@ fn opening(m: &[u8]) -> [u32; 64]
     w
 }
 
-// The message schedule of the block m.
+// The message schedule of the block m. The last two words are carried along: read back from the array, each would keep the
+// next but one waiting.
 fn schedule(m: &[u8]) -> [u32; 64]
     requires { ⌜ length (now m) ≡ 64 ⌝ }
     ensures { λ r. ⌜ r ≡ B.schedule (now (m .entry)) 48 ⌝ }
 {
     let mut w = opening(m);
+    let mut w2 = w[14];
+    let mut w1 = w[15];
     let mut t = 0;
     while t < 48 {
-        w[t + 16] = next_word(w[t + 14], w[t + 9], w[t + 1], w[t]);
+        let next = next_word(w2, w[t + 9], w[t + 1], w[t]);
+        w[t + 16] = next;
+        w2 = w1;
+        w1 = next;
         t += 1;
     }
     w

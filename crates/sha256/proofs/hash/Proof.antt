@@ -1,14 +1,7 @@
 -- `sha256::hash` meets its contract. Assumes nothing.
-use mathlib.Core.Path.{ap, _∙_}
-use mathlib.Core.List.{List, _++_}
-use Prim.Native.Nat.{ℕ}
-use lib.ListN.{length}
-use Rattle.sha256_block.specs.Block.{whole}
-use Rattle.sha256.specs.Hash.{padding, out}
-use Rattle.sha256.proofs.Running.{left-behind}
-use Rattle.sha256.proofs.Laws.{hashed}
-use borrow.Author.Tests.{lt-ltb, le-ltb}
 use Rattle.sha256.proofs.Answers.{gives-refused, gives-given}
+use Rattle.sha256.proofs.Laws.{within-standard}
+use borrow.Author.Tests.{lt-ltb, le-ltb}
 use borrow.Author.Needs.{needs}
 use Rattle.sha256.proofs.hash.Statement.{statement}
 use Rattle.sha256.proofs.hash.Tie as tie
@@ -19,53 +12,16 @@ refused-requires c κs = search needs
 returns : tie.Need-returns
 returns c = gives-refused (lt-ltb _ _ (c .before .if1 .taken)) (c .refused .ensures)
 
-initial-requires : tie.Need-initial-requires
-initial-requires c κs = search needs
-
-blocks-requires : tie.Need-blocks-requires
-blocks-requires c κs = search needs
-
-sub-last-digest : tie.Need-sub-last-digest
-sub-last-digest c = search needs
-
-sub-last-digest-2 : tie.Need-sub-last-digest-2
-sub-last-digest-2 c = search needs
-
-part-last-digest-start : tie.Need-part-last-digest-start
-part-last-digest-start c = search needs
-
-part-last-digest-end : tie.Need-part-last-digest-end
-part-last-digest-end c = search needs
-
-last-digest-requires : tie.Need-last-digest-requires
-last-digest-requires c κs = search needs
+digest-of-requires : tie.Need-digest-of-requires
+digest-of-requires c κs = search needs
 
 given-requires : tie.Need-given-requires
 given-requires c κs = search needs
 
 returns-2 : tie.Need-returns-2
 returns-2 c =
-    let w = c .before .before .before in
-    let m = w .before .before .before .before .args .message .now in
-    gives-given
-    (le-ltb _ _ (w .before .before .if1 .left))
-    (hashed m (w .blocks2 .result) (c .before .last-digest .result)
-    (w .blocks2 .ensures ∙ ap (λ (s : List ℕ). whole s m) (w .before .initial .ensures))
-    (c .before .last-digest .ensures ∙ ap (λ (l : List ℕ). out (whole (w .blocks2 .result) (l ++ padding (length m))) 8) (left-behind m)))
-    (c .given .ensures)
+    let small = c .before .before .if1 .left in
+    gives-given (le-ltb _ _ small) (within-standard _ (c .before .digest-of .ensures) small) (c .given .ensures)
 
 pub hash-spec : {M : Type 1} → statement M
-hash-spec =
-    tie.close
-    (tie.spec
-    refused-requires
-    returns
-    initial-requires
-    blocks-requires
-    sub-last-digest
-    sub-last-digest-2
-    part-last-digest-start
-    part-last-digest-end
-    last-digest-requires
-    given-requires
-    returns-2)
+hash-spec = tie.close (tie.spec refused-requires returns digest-of-requires given-requires returns-2)

@@ -1,4 +1,5 @@
 pub mod Lists
+pub mod Quiet
 pub mod Laws
 pub mod Checks
 pub mod Turns

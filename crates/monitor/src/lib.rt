@@ -87,8 +87,8 @@ fn exposure(cpu: bool, dma: bool) -> u8
     }
 }
 
-// A step that does not reset: both reads, and then the stores.
-fn act(l: Layout, s: Step, memory: &mut [u8]) -> StepAnswer
+// Both reads, and then the stores.
+fn access(l: Layout, s: Step, memory: &mut [u8]) -> StepAnswer
     requires { ⌜ length (now memory) ≡ memoryBytes ⌝ }
     ensures { λ r. ⌜ (r ≡ E.exposing l s (now (memory .entry)))
         × (now (memory .exit) ≡ E.storing l s (now (memory .entry))) ⌝ }
@@ -108,6 +108,24 @@ fn act(l: Layout, s: Step, memory: &mut [u8]) -> StepAnswer
         cpu,
         dma,
     }
+}
+
+// A step that does not reset. With PC in CR and the DMA at rest nothing is handed out, so that only the CPU's store is left.
+fn act(l: Layout, s: Step, memory: &mut [u8]) -> StepAnswer
+    requires { ⌜ length (now memory) ≡ memoryBytes ⌝ }
+    ensures { λ r. ⌜ (r ≡ E.exposing l s (now (memory .entry)))
+        × (now (memory .exit) ≡ E.storing l s (now (memory .entry))) ⌝ }
+{
+    if l.cr.holds(s.pc) & !s.active {
+        put(l, s.writes, s.cpu, s.cpudata, memory);
+        return StepAnswer {
+            cause: 0,
+            exposed: 0,
+            cpu: 0,
+            dma: 0,
+        };
+    }
+    access(l, s, memory)
 }
 
 // One step: its answer, what the monitor then remembers, and its stores.

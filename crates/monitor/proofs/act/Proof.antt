@@ -1,46 +1,42 @@
 -- `monitor::act` meets its contract. Assumes nothing.
+use mathlib.Core.Path.{_∙_}
+use Rattle.monitor.proofs.Quiet.{quiet}
 use borrow.Author.Needs.{needs}
-use Rattle.monitor.specs.Effects.{exposing, storing}
 use Rattle.monitor.proofs.act.Statement.{statement}
 use Rattle.monitor.proofs.act.Tie as tie
 
 holds-requires : tie.Need-holds-requires
 holds-requires c κs = search needs
 
-exposure-requires : tie.Need-exposure-requires
-exposure-requires c κs = search needs
-
-peek-requires : tie.Need-peek-requires
-peek-requires c κs = search needs
-
-peek-requires-2 : tie.Need-peek-requires-2
-peek-requires-2 c κs = search needs
-
 put-requires : tie.Need-put-requires
 put-requires c κs = search needs
-
-put-requires-2 : tie.Need-put-requires-2
-put-requires-2 c κs = search needs
 
 same-length : tie.Need-same-length
 same-length c = search needs
 
 returns : tie.Need-returns
-unfolding exposing storing
-returns c = (
-  simp (c .before .before .before .before .before .before .before .before .before .before .before .before .before .before .before .before .before .holds .ensures, c .before .before .before .before .before .before .before .before .before .before .before .before .exposure .ensures, c .before .before .before .before .before .before .before .before .before .before .peek .ensures, c .before .before .before .before .before .before .before .before .peek2 .ensures),
-  simp (c .before .before .put2 .ensures, c .before .before .before .before .before .before .put .ensures),
-)
+returns c =
+    let h = c .before .before .before .before .before .before .before .before .args in
+    let q = quiet (h .l) (h .s) (h .memory .now) _ (c .before .before .before .before .before .before .holds .ensures) (c .before .before .before .before .if1 .taken) in
+    (q .0, c .before .before .put .ensures ∙ q .1)
+
+access-requires : tie.Need-access-requires
+access-requires c κs = search needs
+
+same-length-2 : tie.Need-same-length-2
+same-length-2 c = search needs
+
+returns-2 : tie.Need-returns-2
+returns-2 c = search needs
 
 pub act-spec : {M : Type 1} → statement M
 act-spec =
     tie.close
     (tie.spec
     holds-requires
-    exposure-requires
-    peek-requires
-    peek-requires-2
     put-requires
-    put-requires-2
     same-length
-    returns)
+    returns
+    access-requires
+    same-length-2
+    returns-2)

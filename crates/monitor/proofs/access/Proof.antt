@@ -1,0 +1,46 @@
+-- `monitor::access` meets its contract. Assumes nothing.
+use borrow.Author.Needs.{needs}
+use Rattle.monitor.specs.Effects.{exposing, storing}
+use Rattle.monitor.proofs.access.Statement.{statement}
+use Rattle.monitor.proofs.access.Tie as tie
+
+holds-requires : tie.Need-holds-requires
+holds-requires c κs = search needs
+
+exposure-requires : tie.Need-exposure-requires
+exposure-requires c κs = search needs
+
+peek-requires : tie.Need-peek-requires
+peek-requires c κs = search needs
+
+peek-requires-2 : tie.Need-peek-requires-2
+peek-requires-2 c κs = search needs
+
+put-requires : tie.Need-put-requires
+put-requires c κs = search needs
+
+put-requires-2 : tie.Need-put-requires-2
+put-requires-2 c κs = search needs
+
+same-length : tie.Need-same-length
+same-length c = search needs
+
+returns : tie.Need-returns
+unfolding exposing storing
+returns c = (
+  simp (c .before .before .before .before .before .before .before .before .before .before .before .before .before .before .before .before .before .holds .ensures, c .before .before .before .before .before .before .before .before .before .before .before .before .exposure .ensures, c .before .before .before .before .before .before .before .before .before .before .peek .ensures, c .before .before .before .before .before .before .before .before .peek2 .ensures),
+  simp (c .before .before .put2 .ensures, c .before .before .before .before .before .before .put .ensures),
+)
+
+pub access-spec : {M : Type 1} → statement M
+access-spec =
+    tie.close
+    (tie.spec
+    holds-requires
+    exposure-requires
+    peek-requires
+    peek-requires-2
+    put-requires
+    put-requires-2
+    same-length
+    returns)

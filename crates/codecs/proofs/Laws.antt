@@ -1,0 +1,125 @@
+-- Nothing is lost: the laws of specs/Back.antt. Assumes nothing.
+use mathlib.Core.Path.{_≡_, refl, ap, sym, _∙_}
+use mathlib.Core.Bool.{_&&_}
+use mathlib.Core.List.{List, [], _∷_, _++_, append-nil}
+use Prim.Native.Nat.{ℕ, zero, suc, _+_, _-_, _*_, _/_, _%_, _^_, _≤_, _<_}
+use native.Mathlib.Nat.{pow-succ'}
+use native.Mathlib.Omega.{arith}
+use borrow.Author.Tests.{ltb-true, eqb-true}
+use lib.Dec.{eqb, ltb}
+use lib.ListN.{length, getD, take, drop, replicate, length-append, length-drop, drop-of-length-le}
+use lib.Seq.{drop-cons, take-add, take-all, length-take-le}
+use Rattle.refusal.specs.Bytes.{Bytes}
+use Rattle.refusal.proofs.Bytes.{bytes-take, bytes-drop}
+use Rattle.refusal.proofs.Tests.{both}
+use Rattle.refusal.specs.Choice.{pick}
+use Rattle.sha256.specs.Running.{blockOf}
+use Rattle.layout.specs.Layouts.{word}
+use Rattle.rules.specs.Steps.{bit, stepOf}
+use Rattle.codecs.specs.Numbers.{number, little}
+use Rattle.codecs.specs.Values.{wordsOf, wordsBytes, stateOf, stateBytes, stepBytes}
+use Rattle.codecs.specs.Promises.{WritesHex}
+use Rattle.codecs.specs.Back.{BytesBack, NumberBack, StateBack, StepBack}
+
+low : (x m : ℕ) → x < 256 → (x + 256 * m) % 256 ≡ x
+low x m h = omega arith
+
+high : (x m : ℕ) → x < 256 → (x + 256 * m) / 256 ≡ m
+high x m h = omega arith
+
+pub bytes-back : BytesBack
+unfolding number little
+bytes-back [] h = refl
+bytes-back (x ∷ b) h =
+    let l : (x + 256 * number b) % 256 ≡ x = low x (number b) (h 0) in
+    let k : (x + 256 * number b) / 256 ≡ number b = high x (number b) (h 0) in
+    rw (l, k) (ap (λ (r : List ℕ). x ∷ r) (bytes-back b (λ i. h (suc i))))
+
+pub number-back : NumberBack
+unfolding number little
+number-back zero n h = omega arith
+number-back (suc k) n h =
+    let p : n < 256 * 256 ^ k = omega (arith, pow-succ' 256 k) in
+    let r : number (little k (n / 256)) ≡ n / 256 = number-back k (n / 256) (omega arith) in
+    omega arith
+
+part-back : (k : ℕ) (b : List ℕ) → Bytes b → k ≤ length b → little k (number (take k b)) ≡ take k b
+part-back k b p h =
+    ap (λ (j : ℕ). little j (number (take k b))) (sym (length-take-le k b h)) ∙ bytes-back (take k b) (bytes-take k b p)
+
+words-back : (k : ℕ) (b : List ℕ) → Bytes b → 4 * k ≤ length b → wordsBytes (wordsOf k b) ≡ take (4 * k) b
+unfolding wordsOf wordsBytes
+words-back zero b p h = refl
+words-back (suc k) b p h =
+    let e : 4 * suc k ≡ 4 + 4 * k = omega arith in
+    let w : little 4 (number (take 4 b)) ≡ take 4 b = part-back 4 b p (omega arith) in
+    let r : wordsBytes (wordsOf k (drop 4 b)) ≡ take (4 * k) (drop 4 b) = words-back k (drop 4 b) (bytes-drop 4 b p) (simp length-drop (omega arith)) in
+    cc (take-add 4 (4 * k) b)
+
+-- a whole block has no zeros behind it
+block-back : (b : List ℕ) → 64 ≤ length b → blockOf b ≡ take 64 b
+block-back b h =
+    let z : 64 - length b ≡ 0 = omega arith in
+    ap (λ (n : ℕ). take 64 b ++ replicate n 0) z ∙ append-nil (take 64 b)
+
+pub state-back : StateBack
+unfolding stateOf stateBytes
+state-back b p e =
+    let w : wordsBytes (wordsOf 8 b) ≡ take 32 b = words-back 8 b p (omega arith) in
+    let k : blockOf (drop 32 b) ≡ take 64 (drop 32 b) = block-back (drop 32 b) (simp length-drop (omega arith)) in
+    let t : little 8 (number (take 8 (drop 96 b))) ≡ take 8 (drop 96 b) = part-back 8 (drop 96 b) (bytes-drop 96 b p) (simp length-drop (omega arith)) in
+    cc (take-add 32 64 b, take-add 96 8 b, take-all 104 b (omega arith))
+
+-- a bit as a number
+bit-value : (r v : ℕ) → r < 2 → pick (eqb r 1) v 0 ≡ r * v
+bit-value zero v h = omega arith
+bit-value (suc zero) v h = omega arith
+bit-value (suc (suc r)) v h = absurd (omega arith)
+
+summed : (x x₁ x₂ x₃ a b c d e : ℕ) → x ≡ a + 2 * x₁ → x₁ ≡ b + 2 * x₂ → x₂ ≡ c + 2 * x₃ → x₃ ≡ d + 2 * e
+    → a * 1 + b * 2 + c * 4 + d * 8 + e * 16 ≡ x
+summed x x₁ x₂ x₃ a b c d e h₀ h₁ h₂ h₃ = omega arith
+
+halved : (x : ℕ) → (x ≡ x / 1 % 2 + 2 * (x / 2)) × (x / 2 ≡ x / 2 % 2 + 2 * (x / 4)) × (x / 4 ≡ x / 4 % 2 + 2 * (x / 8))
+halved x = (omega arith, omega arith, omega arith)
+
+halved-twice : (x : ℕ) → x < 32 → x / 8 ≡ x / 8 % 2 + 2 * (x / 16 % 2)
+halved-twice x h = omega arith
+
+flags-back : (x : ℕ) → x < 32 → pick (bit 0 x) 1 0 + pick (bit 1 x) 2 0 + pick (bit 2 x) 4 0 + pick (bit 3 x) 8 0 + pick (bit 4 x) 16 0 ≡ x
+flags-back x h =
+    let e₀ : pick (bit 0 x) 1 0 ≡ x / 1 % 2 * 1 = bit-value (x / 1 % 2) 1 (omega arith) in
+    let e₁ : pick (bit 1 x) 2 0 ≡ x / 2 % 2 * 2 = bit-value (x / 2 % 2) 2 (omega arith) in
+    let e₂ : pick (bit 2 x) 4 0 ≡ x / 4 % 2 * 4 = bit-value (x / 4 % 2) 4 (omega arith) in
+    let e₃ : pick (bit 3 x) 8 0 ≡ x / 8 % 2 * 8 = bit-value (x / 8 % 2) 8 (omega arith) in
+    let e₄ : pick (bit 4 x) 16 0 ≡ x / 16 % 2 * 16 = bit-value (x / 16 % 2) 16 (omega arith) in
+    let s = halved x in
+    cc (summed x (x / 2) (x / 4) (x / 8) (x / 1 % 2) (x / 2 % 2) (x / 4 % 2) (x / 8 % 2) (x / 16 % 2) (s .0) (s .1) (s .2) (halved-twice x h))
+
+word-back : (x y : ℕ) → x < 256 → y < 256 → little 2 (word x y) ≡ x ∷ y ∷ []
+unfolding little
+word-back x y h k =
+    let l : word x y % 256 ≡ x = low x y h in
+    let m : word x y / 256 ≡ y = high x y h in
+    let n : y % 256 ≡ y = omega arith in
+    cc
+
+twelve : (b : List ℕ) → length b ≡ 12
+    → getD b 0 0 ∷ getD b 1 0 ∷ getD b 2 0 ∷ getD b 3 0 ∷ getD b 4 0 ∷ getD b 5 0 ∷ getD b 6 0 ∷ getD b 7 0 ∷ getD b 8 0 ∷ getD b 9 0 ∷ getD b 10 0 ∷ getD b 11 0 ∷ [] ≡ b
+twelve b e = cc (drop-cons b 0 0 (omega arith), drop-cons b 1 0 (omega arith), drop-cons b 2 0 (omega arith), drop-cons b 3 0 (omega arith), drop-cons b 4 0 (omega arith), drop-cons b 5 0 (omega arith), drop-cons b 6 0 (omega arith), drop-cons b 7 0 (omega arith), drop-cons b 8 0 (omega arith), drop-cons b 9 0 (omega arith), drop-cons b 10 0 (omega arith), drop-cons b 11 0 (omega arith), drop-of-length-le b {i = 12} (omega arith))
+
+pub step-back : StepBack
+unfolding stepOf stepBytes
+step-back b p e c =
+    let t₁ = both (ltb (getD b 6 0) 32 && eqb (getD b 9 0) 0 && eqb (getD b 10 0) 0) (eqb (getD b 11 0) 0) c in
+    let t₂ = both (ltb (getD b 6 0) 32 && eqb (getD b 9 0) 0) (eqb (getD b 10 0) 0) (t₁ .0) in
+    let t₃ = both (ltb (getD b 6 0) 32) (eqb (getD b 9 0) 0) (t₂ .0) in
+    let z₁₁ : getD b 11 0 ≡ 0 = eqb-true (getD b 11 0) 0 (t₁ .1) in
+    let z₁₀ : getD b 10 0 ≡ 0 = eqb-true (getD b 10 0) 0 (t₂ .1) in
+    let z₉ : getD b 9 0 ≡ 0 = eqb-true (getD b 9 0) 0 (t₃ .1) in
+    let f = flags-back (getD b 6 0) (ltb-true (getD b 6 0) 32 (t₃ .0)) in
+    cc (twelve b e, word-back (getD b 0 0) (getD b 1 0) (p 0) (p 1), word-back (getD b 2 0) (getD b 3 0) (p 2) (p 3), word-back (getD b 4 0) (getD b 5 0) (p 4) (p 5))
+
+-- what `hex` answers is within the buffer
+pub hex-within : {b out out′ : List ℕ} {r : ℕ} → WritesHex b out out′ r → r ≤ length out′
+hex-within p = rw (p .answered, p .out-left, length-append) (omega arith)

@@ -1,0 +1,43 @@
+-- A state of the running hash, and a monitor, read from bytes. Assumes nothing.
+use mathlib.Core.Path.{_≡_, ap, sym}
+use mathlib.Core.Bool.{not}
+use mathlib.Core.List.{List, [], _∷_}
+use Prim.Native.Nat.{ℕ, _-_, _<_}
+use native.Mathlib.Omega.{arith}
+use lib.Dec.{eqb}
+use lib.ListN.{length, getD, take, drop, length-drop, drop-of-length-le}
+use lib.Seq.{drop-drop, take-all}
+use Rattle.sha256.specs.declared.Sha.{Sha}
+use Rattle.sha256.specs.Running.{blockOf}
+use Rattle.layout.specs.Layouts.{word}
+use Rattle.rules.specs.declared.Monitor.{Monitor}
+use Rattle.codecs.specs.Numbers.{number}
+use Rattle.codecs.specs.Values.{wordsOf, stateOf, monitorOf}
+
+-- the word from a place on
+abbrev pub wordAt : List ℕ → ℕ → ℕ
+wordAt b from = number (take 4 (drop from b))
+
+pub eight-words : (b : List ℕ)
+    → wordAt b 0 ∷ wordAt b 4 ∷ wordAt b 8 ∷ wordAt b 12 ∷ wordAt b 16 ∷ wordAt b 20 ∷ wordAt b 24 ∷ wordAt b 28 ∷ [] ≡ wordsOf 8 b
+unfolding wordsOf
+eight-words b = cc (drop-drop 4 4 b, drop-drop 4 8 b, drop-drop 4 12 b, drop-drop 4 16 b, drop-drop 4 20 b, drop-drop 4 24 b)
+
+-- the block, of which no byte is there, or some
+pub no-block : (b : List ℕ) → length b < 32 → blockOf [] ≡ blockOf (drop 32 b)
+no-block b h = ap blockOf (sym (drop-of-length-le b {i = 32} (omega arith)))
+
+pub some-block : (b : List ℕ) → blockOf (take (length b - 32) (drop 32 b)) ≡ blockOf (drop 32 b)
+some-block b = ap blockOf (take-all (length b - 32) (drop 32 b) (simp length-drop (omega arith)))
+
+pub state-is : (b w k : List ℕ) (t : ℕ) → w ≡ wordsOf 8 b → k ≡ blockOf (drop 32 b) → t ≡ number (take 8 (drop 96 b))
+    → _≡_ {A = Sha} (record { words = w; block = k; total = t }) (stateOf b)
+unfolding stateOf
+state-is b w k t p q s = λ i. record { words = p i; block = q i; total = s i }
+
+pub monitor-is : (b : List ℕ) (x y z w : ℕ) → x ≡ getD b 0 0 → y ≡ getD b 1 0 → z ≡ getD b 2 0 → w ≡ word y z
+    → _≡_ {A = Monitor} (record { held = not (eqb x 0); last = w }) (monitorOf b)
+unfolding monitorOf
+monitor-is b x y z w p q r s =
+    let e : w ≡ word (getD b 1 0) (getD b 2 0) = cc in
+    λ i. record { held = not (eqb (p i) 0); last = e i }

@@ -1,0 +1,128 @@
+-- Bytes laid into a buffer. Of a loop that lays them, `goal` is the buffer that what is still to be laid leads to. Assumes nothing.
+use mathlib.Core.Path.{_≡_, refl, ap, sym, _∙_}
+use mathlib.Core.List.{List, [], _∷_, _++_, append-nil}
+use Prim.Native.Nat.{ℕ, zero, suc, _+_, _-_, _*_, _/_, _%_, _<_, min}
+use native.Mathlib.Nat.{add-zero}
+use native.Mathlib.Numerals.{add-one}
+use native.Mathlib.Omega.{arith}
+use lib.ListN.{length, getD, set, take, drop, length-append, length-take, drop-of-length-le}
+use lib.Seq.{sets, drop-cons, drop-length, take-all}
+use Rattle.io.specs.Digits.{digits, glyph}
+use Rattle.refusal.proofs.Laid.{sets-append, cut}
+use Rattle.sha256.specs.declared.Sha.{Sha}
+use Rattle.codecs.specs.Numbers.{little, hexText}
+use Rattle.codecs.specs.Values.{wordsBytes, stateBytes}
+use Rattle.codecs.specs.Promises.{WritesHex}
+
+-- a part is laid
+part-more : (out out′ goal a b : List ℕ) (p q : ℕ) → sets out p (a ++ b) ≡ goal → out′ ≡ sets out p a → q ≡ p + length a → sets out′ q b ≡ goal
+part-more out out′ goal a b p q e l n =
+    ap (λ (k : ℕ). sets out′ k b) n
+    ∙ ap (λ (o : List ℕ). sets o (p + length a) b) l
+    ∙ sets-append a b out p
+    ∙ e
+
+-- a number
+pub number-more : (out goal : List ℕ) (p n k : ℕ) → 0 < k → sets out p (little k n) ≡ goal
+    → sets (set out p (n % 256)) (p + 1) (little (k - 1) (n / 256)) ≡ goal
+unfolding little
+number-more out goal p n k h e =
+    let s : k ≡ suc (k - 1) = omega arith in
+    rw add-one (ap (λ (j : ℕ). sets out p (little j n)) (sym s) ∙ e)
+
+pub number-whole : (out goal : List ℕ) (p n k : ℕ) → k ≡ 0 → sets out p (little k n) ≡ goal → out ≡ goal
+unfolding little
+number-whole out goal p n k z e = ap (λ (j : ℕ). sets out p (little j n)) (sym z) ∙ e
+
+-- bytes
+pub bytes-none : (out b : List ℕ) (at : ℕ) → sets out (at + 0) (drop 0 b) ≡ sets out at b
+bytes-none out b at = rw add-zero
+
+pub bytes-more : (out goal b : List ℕ) (at i : ℕ) → i < length b → sets out (at + i) (drop i b) ≡ goal
+    → sets (set out (at + i) (getD b i 0)) (at + (i + 1)) (drop (i + 1) b) ≡ goal
+bytes-more out goal b at i h e =
+    let s : at + (i + 1) ≡ suc (at + i) = omega arith in
+    rw (s, add-one) (ap (λ (l : List ℕ). sets out (at + i) l) (sym (drop-cons b i 0 h)) ∙ e)
+
+pub bytes-whole : (out goal b : List ℕ) (p i : ℕ) → i ≡ length b → sets out p (drop i b) ≡ goal → out ≡ goal
+bytes-whole out goal b p i z e = ap (λ (l : List ℕ). sets out p l) (sym (ap (λ (j : ℕ). drop j b) z ∙ drop-length b)) ∙ e
+
+-- words
+pub words-more : (out out′ goal ws : List ℕ) (i : ℕ) → i < length ws → sets out (4 * i) (wordsBytes (drop i ws)) ≡ goal
+    → out′ ≡ sets out (4 * i) (little 4 (getD ws i 0)) → sets out′ (4 * (i + 1)) (wordsBytes (drop (i + 1) ws)) ≡ goal
+unfolding wordsBytes little
+words-more out out′ goal ws i h e l =
+    let n : wordsBytes (drop i ws) ≡ little 4 (getD ws i 0) ++ wordsBytes (drop (i + 1) ws) = rw (add-one, drop-cons ws i 0) in
+    part-more out out′ goal (little 4 (getD ws i 0)) (wordsBytes (drop (i + 1) ws)) (4 * i) (4 * (i + 1))
+    (ap (λ (x : List ℕ). sets out (4 * i) x) (sym n) ∙ e) l (omega arith)
+
+pub words-whole : (out goal ws : List ℕ) (p i : ℕ) → i ≡ length ws → sets out p (wordsBytes (drop i ws)) ≡ goal → out ≡ goal
+unfolding wordsBytes
+words-whole out goal ws p i z e =
+    ap (λ (l : List ℕ). sets out p (wordsBytes l)) (sym (ap (λ (j : ℕ). drop j ws) z ∙ drop-length ws)) ∙ e
+
+-- two digits
+pub digits-laid : (out out₁ out₂ : List ℕ) (at b x y : ℕ) → x ≡ glyph (b / 16 % 16) → out₁ ≡ set out at x → y ≡ glyph (b % 16) → out₂ ≡ set out₁ (at + 1) y
+    → out₂ ≡ sets out at (digits 16 2 b)
+digits-laid out out₁ out₂ at b x y ex e₁ ey e₂ =
+    e₂
+    ∙ ap (λ (l : List ℕ). set l (at + 1) y) e₁
+    ∙ ap (λ (k : ℕ). set (set out at x) k y) (add-one at)
+    ∙ ap (λ (z : ℕ). set (set out at z) (suc at) y) ex
+    ∙ ap (λ (z : ℕ). set (set out at (glyph (b / 16 % 16))) (suc at) z) ey
+
+-- the digits of bytes
+pub hex-more : (out out′ goal b : List ℕ) (i : ℕ) → i < length b → sets out (2 * i) (hexText (drop i b)) ≡ goal
+    → out′ ≡ sets out (2 * i) (digits 16 2 (getD b i 0)) → sets out′ (2 * (i + 1)) (hexText (drop (i + 1) b)) ≡ goal
+unfolding hexText
+hex-more out out′ goal b i h e l =
+    let n : hexText (drop i b) ≡ digits 16 2 (getD b i 0) ++ hexText (drop (i + 1) b) = rw (add-one, drop-cons b i 0) in
+    part-more out out′ goal (digits 16 2 (getD b i 0)) (hexText (drop (i + 1) b)) (2 * i) (2 * (i + 1))
+    (ap (λ (x : List ℕ). sets out (2 * i) x) (sym n) ∙ e) l (omega arith)
+
+hex-laid : (out goal b : List ℕ) (p i : ℕ) → i ≡ length b → sets out p (hexText (drop i b)) ≡ goal → out ≡ goal
+unfolding hexText
+hex-laid out goal b p i z e =
+    ap (λ (l : List ℕ). sets out p (hexText l)) (sym (ap (λ (j : ℕ). drop j b) z ∙ drop-length b)) ∙ e
+
+length-hex : (b : List ℕ) → length (hexText b) ≡ 2 * length b
+unfolding hexText
+length-hex [] = refl
+length-hex (x ∷ b) = simp length-append (omega (arith, length-hex b))
+
+pub hex-whole : (b out out′ : List ℕ) (i r : ℕ) → i ≡ length b → sets out′ (2 * i) (hexText (drop i b)) ≡ sets out 0 (hexText b)
+    → r ≡ min (length out) (2 * i) → WritesHex b out out′ r
+hex-whole b out out′ i r z e n = record {
+  answered = simp (length-take, length-hex) (omega arith);
+  out-left = hex-laid out′ (sets out 0 (hexText b)) b (2 * i) i z e ∙ cut out (hexText b);
+}
+
+-- the bytes of a state
+length-little : (k n : ℕ) → length (little k n) ≡ k
+unfolding little
+length-little zero n = refl
+length-little (suc k) n = ap suc (length-little k (n / 256))
+
+length-words : (ws : List ℕ) → length (wordsBytes ws) ≡ 4 * length ws
+unfolding wordsBytes
+length-words [] = refl
+length-words (w ∷ ws) = simp (length-append, length-little) (omega (arith, length-words ws))
+
+pub state-laid : (s : Sha) (out out₁ out₂ out₃ : List ℕ) → length (s .words) ≡ 8 → length (s .block) ≡ 64 → length out ≡ 104
+    → out₁ ≡ sets out 0 (wordsBytes (s .words)) → out₂ ≡ sets out₁ 32 (s .block) → out₃ ≡ sets out₂ 96 (little 8 (s .total))
+    → out₃ ≡ stateBytes s
+unfolding stateBytes
+state-laid s out out₁ out₂ out₃ nw nb lo e₁ e₂ e₃ =
+    let w = wordsBytes (s .words) in
+    let t = little 8 (s .total) in
+    let lw : length w ≡ 32 = omega (arith, length-words (s .words)) in
+    let lb : length (w ++ s .block) ≡ 96 = simp length-append (omega arith) in
+    let lt : length (w ++ s .block ++ t) ≡ 104 = simp length-append (omega (arith, length-little 8 (s .total))) in
+    let p₂ : out₂ ≡ sets out 0 (w ++ s .block) = e₂ ∙ part-more out out₁ (sets out 0 (w ++ s .block)) w (s .block) 0 32 refl e₁ (omega arith) in
+    let p₃ : out₃ ≡ sets out 0 (w ++ s .block ++ t) = e₃ ∙ part-more out out₂ (sets out 0 (w ++ s .block ++ t)) (w ++ s .block) t 0 96 refl p₂ (omega arith) in
+    let z : drop (length (w ++ s .block ++ t)) out ≡ [] = drop-of-length-le out {i = length (w ++ s .block ++ t)} (omega arith) in
+    p₃
+    ∙ cut out (w ++ s .block ++ t)
+    ∙ ap (λ (l : List ℕ). take (length out) (w ++ s .block ++ t) ++ l) z
+    ∙ append-nil (take (length out) (w ++ s .block ++ t))
+    ∙ take-all (length out) (w ++ s .block ++ t) (omega arith)

@@ -1,0 +1,5 @@
+pub mod Numbers
+pub mod Values
+pub mod Promises
+pub mod Settled
+pub mod Back

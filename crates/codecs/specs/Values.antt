@@ -1,0 +1,50 @@
+-- Values as bytes, as the program `calls` takes and prints them: a state of the running hash, a monitor, a step. Assumes nothing.
+use mathlib.Core.Bool.{not}
+use mathlib.Core.List.{List, [], _∷_, _++_}
+use Prim.Native.Nat.{ℕ, zero, suc, _+_}
+use lib.Dec.{eqb}
+use lib.ListN.{getD, take, drop}
+use Rattle.refusal.specs.Choice.{pick}
+use Rattle.sha256.specs.declared.Sha.{Sha}
+use Rattle.sha256.specs.Running.{blockOf}
+use Rattle.layout.specs.Layouts.{word}
+use Rattle.rules.specs.declared.Monitor.{Monitor}
+use Rattle.rules.specs.declared.Step.{Step}
+use Rattle.codecs.specs.Numbers.{number, little}
+
+-- k words of four bytes
+unfoldable pub wordsOf : ℕ → List ℕ → List ℕ
+wordsOf zero b = []
+wordsOf (suc k) b = number (take 4 b) ∷ wordsOf k (drop 4 b)
+
+unfoldable pub wordsBytes : List ℕ → List ℕ
+wordsBytes [] = []
+wordsBytes (w ∷ ws) = little 4 w ++ wordsBytes ws
+
+-- a state: the eight words, the block, the total in eight bytes; bytes that are missing count as 0
+unfoldable pub stateOf : List ℕ → Sha
+stateOf b = record {
+  words = wordsOf 8 b;
+  block = blockOf (drop 32 b);
+  total = number (take 8 (drop 96 b));
+}
+
+unfoldable pub stateBytes : Sha → List ℕ
+stateBytes s = wordsBytes (s .words) ++ s .block ++ little 8 (s .total)
+
+-- a monitor: held if the first byte is not 0, and the last PC behind it
+unfoldable pub monitorOf : List ℕ → Monitor
+monitorOf b = record {
+  held = not (eqb (getD b 0 0) 0);
+  last = word (getD b 1 0) (getD b 2 0);
+}
+
+-- the flags of a step, from bit 0 on
+abbrev pub flags : Step → ℕ
+flags s = pick (s .reads) 1 0 + pick (s .writes) 2 0 + pick (s .interrupt) 4 0 + pick (s .active) 8 0 + pick (s .stores) 16 0
+
+-- the 12 bytes that a step stands for
+unfoldable pub stepBytes : Step → List ℕ
+stepBytes s =
+    little 2 (s .pc) ++ little 2 (s .cpu) ++ little 2 (s .dma)
+    ++ flags s ∷ s .cpudata ∷ s .dmadata ∷ 0 ∷ 0 ∷ 0 ∷ []

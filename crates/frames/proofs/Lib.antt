@@ -1,0 +1,4 @@
+pub mod Walk
+pub mod Sent
+pub mod Begun
+pub mod Laws

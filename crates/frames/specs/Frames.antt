@@ -1,0 +1,50 @@
+-- A call in a stream: its number, then its arguments, each behind its length in four bytes. Assumes nothing.
+use mathlib.Core.Bool.{not, _||_}
+use mathlib.Core.List.{List, [], _∷_}
+use Prim.Native.Nat.{ℕ, zero, suc, _+_, _-_}
+use lib.Dec.{eqb, ltb}
+use lib.ListN.{length, take, drop}
+use Rattle.refusal.specs.Choice.{pick}
+use Rattle.codecs.specs.Numbers.{number}
+use Rattle.frames.specs.declared.Framed.{Framed}
+use Rattle.frames.specs.declared.Framed.the-variants.{Needs, Whole, Cut}
+use Rattle.frames.specs.Calls.{most, count, allowed}
+
+-- the length of the argument that begins these bytes, and what is behind it
+abbrev pub size : List ℕ → ℕ
+size b = number (take 4 b)
+
+abbrev pub behind : List ℕ → List ℕ
+behind b = drop (4 + size b) b
+
+-- what these bytes are of argument i of call n alone, where the arguments before it have `used` bytes together
+unfoldable pub framedOne : ℕ → ℕ → ℕ → List ℕ → Framed
+framedOne n i used b =
+    pick (ltb (length b) 4) (Needs (4 - length b))
+    (pick (not (allowed n i (size b)) || ltb most (used + size b)) Cut
+    (pick (ltb (length b) (4 + size b)) (Needs (4 + size b - length b)) Whole))
+
+-- only where one argument is whole does the next one count
+abbrev pub andThen : Framed → Framed → Framed
+andThen Whole f = f
+andThen (Needs k) f = Needs k
+andThen Cut f = Cut
+
+-- the same of the arguments from i on, k of them
+unfoldable pub framedFrom : ℕ → ℕ → ℕ → ℕ → List ℕ → Framed
+framedFrom n i zero used b = Whole
+framedFrom n i (suc k) used b = andThen (framedOne n i used b) (framedFrom n (suc i) k (used + size b) (behind b))
+
+-- what these bytes of a stream are of the call that they begin: too few by so many at least, all of it, or cut
+unfoldable pub framed : List ℕ → Framed
+framed [] = Needs 1
+framed (n ∷ b) = pick (eqb (count n) 0) Cut (framedFrom n 0 (count n) 0 b)
+
+-- argument i of those that begin these bytes
+unfoldable pub argumentFrom : ℕ → List ℕ → List ℕ
+argumentFrom zero b = take (size b) (drop 4 b)
+argumentFrom (suc i) b = argumentFrom i (behind b)
+
+-- argument i of a call
+abbrev pub argument : List ℕ → ℕ → List ℕ
+argument b i = argumentFrom i (drop 1 b)

@@ -1,35 +1,50 @@
--- What `speed_judge` answers, on plain variables. Assumes nothing.
-use mathlib.Core.Path.{_≡_, refl, ap, sym, _∙_}
-use mathlib.Core.List.{List, []}
+-- The number that a call's row begins with, on plain variables. Assumes nothing.
+use mathlib.Core.Path.{_≡_, refl, ap, _∙_}
+use mathlib.Core.List.{List}
 use Prim.Native.Nat.{ℕ}
-use native.Mathlib.Omega.{arith}
 use lib.ListN.{length, getD}
-use Rattle.refusal.specs.Answers.{told}
+use Rattle.refusal.specs.Answers.{row, told}
 use Rattle.refusal.specs.declared.Answer.{Answer}
-use Rattle.refusal.specs.declared.Answer.the-variants as call
-use Rattle.monitor.specs.declared.Totals.{Totals}
+use Rattle.refusal.specs.declared.Answer.the-variants.{Done, Refused}
+use Rattle.layout.specs.Layouts.{layoutOf}
+use Rattle.layout.specs.Calls.{callCheck}
+use Rattle.board.specs.Promises.{Attests}
 use Rattle.monitor.specs.declared.Traced.{Traced}
-use Rattle.monitor.specs.declared.Traced.the-variants.{Judged, Refused}
-use Rattle.monitor.specs.Promises.{values, tracedRow}
+use Rattle.monitor.specs.Runs.{totals}
+use Rattle.monitor.specs.Promises.{values, tracedRow, traceCheck, Traces}
 use Rattle.runfile.specs.Promises.{judgeCheck, fileTotals, Judges}
-use Rattle.speed.specs.Promises.{Numbers}
+use Rattle.speed.specs.Promises.{answerNumber, tracedNumber, NumbersAttest, NumbersTrace, Numbers}
 
--- the number that an answer's row begins with
-abbrev pub numberOf : Traced → ℕ
-numberOf (Judged t) = 0
-numberOf (Refused q) = q .number
+-- the number of a call's check, whatever values the call tells
+told-number : (a : Answer) (v : List ℕ) → getD (told a v) 0 0 ≡ answerNumber a
+told-number Done v = refl
+told-number (Refused x) v = refl
 
-same-number : (a : Answer) (o : Traced) (t : Totals) → tracedRow o ≡ told a (values t) → numberOf o ≡ getD (told a []) 0 0
-same-number call.Done (Judged u) t e = refl
-same-number call.Done (Refused q) t e = absurd (let z : _≡_ {A = ℕ} 2 3 = ap length e in omega arith)
-same-number (call.Refused x) (Judged u) t e = absurd (let z : _≡_ {A = ℕ} 3 2 = ap length e in omega arith)
-same-number (call.Refused x) (Refused q) t e = cc
+begins : (r : ℕ) (x y : List ℕ) → r ≡ getD x 0 0 → x ≡ y → r ≡ getD y 0 0
+begins r x y n e = n ∙ ap (λ (z : List ℕ). getD z 0 0) e
 
-pub numbers : (file memory room memory′ room′ : List ℕ) (o q : Traced) (r : ℕ) → Judges file memory room memory′ room′ o → o ≡ q
-    → r ≡ numberOf q → Numbers file memory room memory′ room′ r
-numbers file memory room memory′ room′ o q r j e n =
+pub attest-number : (memory layout memory′ : List ℕ) (o : Answer) (r : ℕ) → Attests memory layout memory′ o → r ≡ answerNumber o
+    → NumbersAttest memory layout memory′ r
+attest-number memory layout memory′ o r j n =
+    record { answered = begins r (row o) _ n (j .answered); memory-left = j .memory-left }
+
+pub trace-number : (memory layout trace room memory′ room′ : List ℕ) (o : Traced) (r : ℕ)
+    → Traces memory layout trace room memory′ room′ o → r ≡ tracedNumber o
+    → NumbersTrace memory layout trace room memory′ room′ r
+trace-number memory layout trace room memory′ room′ o r j n =
     record {
-      answered = n ∙ ap numberOf (sym e) ∙ same-number (judgeCheck file memory room) o (fileTotals file) (j .answered);
+      answered = begins r (tracedRow o) _ n (j .answered)
+          ∙ told-number (callCheck memory layout (traceCheck trace (length room))) (values (totals (layoutOf layout) trace memory));
+      memory-left = j .memory-left;
+      room-left = j .room-left;
+    }
+
+pub judge-number : (file memory room memory′ room′ : List ℕ) (o : Traced) (r : ℕ)
+    → Judges file memory room memory′ room′ o → r ≡ tracedNumber o
+    → Numbers file memory room memory′ room′ r
+judge-number file memory room memory′ room′ o r j n =
+    record {
+      answered = begins r (tracedRow o) _ n (j .answered) ∙ told-number (judgeCheck file memory room) (values (fileTotals file));
       memory-left = j .memory-left;
       room-left = j .room-left;
     }

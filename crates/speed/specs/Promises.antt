@@ -1,25 +1,70 @@
--- What `speed_hash` and `speed_judge` promise. Assumes nothing.
+-- What the functions for a C program promise, for all inputs. Assumes nothing.
 use mathlib.Core.Path.{_≡_}
-use mathlib.Core.List.{List, [], _++_}
+use mathlib.Core.Bool.{_||_}
+use mathlib.Core.List.{List, _++_}
 use Prim.Native.Nat.{ℕ}
 use lib.Dec.{ltb}
 use lib.ListN.{length, getD, drop, replicate}
 use Rattle.refusal.specs.Choice.{pick}
-use Rattle.refusal.specs.Answers.{told}
+use Rattle.refusal.specs.Answers.{row, lent}
+use Rattle.refusal.specs.declared.Answer.{Answer}
+use Rattle.layout.specs.Layouts.{layoutOf}
+use Rattle.layout.specs.Calls.{callCheck}
 use Rattle.sha256.specs.Hash.{sha256}
 use Rattle.sha256.specs.Promises.{over}
+use Rattle.hmac.specs.Hmac.{hmac}
+use Rattle.hmac.specs.Promises.{long}
+use Rattle.board.specs.Attestation.{attestCheck, accepted}
+use Rattle.monitor.specs.declared.Traced.{Traced}
+use Rattle.monitor.specs.Runs.{memoryAfter, roomAfter}
+use Rattle.monitor.specs.Promises.{traceCheck, tracedRow}
 use Rattle.runfile.specs.Promises.{judgeCheck, memoryLeft, roomLeft}
 
 -- the bytes that `hash` answers for the message m
 abbrev pub answer : List ℕ → List ℕ
 answer m = pick (over (length m)) (replicate 32 0) (sha256 m)
 
--- the room before and after
-abbrev pub Stores : List ℕ → List ℕ → List ℕ → Type 0
-Stores m room after = after ≡ pick (ltb (length room) 32) room (answer m ++ drop 32 room)
+-- the bytes that `mac` answers for the key k and the message m
+abbrev pub macAnswer : List ℕ → List ℕ → List ℕ
+macAnswer k m = pick (long k || long m) (replicate 32 0) (hmac k m)
 
--- 0, or the refusal's number; and what `judge` leaves
+-- a room with the 32 bytes d at its start; one that is too short for them is as it was
+abbrev pub holding : List ℕ → List ℕ → List ℕ
+holding d room = pick (ltb (length room) 32) room (d ++ drop 32 room)
+
+-- `speed_hash`: the room before and after
+abbrev pub Stores : List ℕ → List ℕ → List ℕ → Type 0
+Stores m room after = after ≡ holding (answer m) room
+
+-- `speed_mac`, likewise
+abbrev pub StoresMac : List ℕ → List ℕ → List ℕ → List ℕ → Type 0
+StoresMac k m room after = after ≡ holding (macAnswer k m) room
+
+-- what an answer's row begins with: 0, or the refusal's number
+abbrev pub answerNumber : Answer → ℕ
+answerNumber a = getD (row a) 0 0
+
+-- the same of `trace` and `judge`
+abbrev pub tracedNumber : Traced → ℕ
+tracedNumber t = getD (tracedRow t) 0 0
+
+-- `speed_attest`: 0, or the refusal's number; and what `attest` leaves
+pub record NumbersAttest (memory layout memory′ : List ℕ) (r : ℕ) : Type 0 where
+  pub answered : r ≡ answerNumber (attestCheck memory layout)
+  pub memory-left : memory′ ≡ lent (attestCheck memory layout) (accepted (layoutOf layout) memory) memory
+
+-- `speed_trace`: the same of `trace`
+pub record NumbersTrace (memory layout trace room memory′ room′ : List ℕ) (r : ℕ) : Type 0 where
+  pub answered : r ≡ answerNumber (callCheck memory layout (traceCheck trace (length room)))
+  pub memory-left :
+      memory′
+      ≡ lent (callCheck memory layout (traceCheck trace (length room))) (memoryAfter (layoutOf layout) trace memory) memory
+  pub room-left :
+      room′
+      ≡ lent (callCheck memory layout (traceCheck trace (length room))) (roomAfter (layoutOf layout) trace memory room) room
+
+-- `speed_judge`: the same of `judge`
 pub record Numbers (file memory room memory′ room′ : List ℕ) (r : ℕ) : Type 0 where
-  pub answered : r ≡ getD (told (judgeCheck file memory room) []) 0 0
+  pub answered : r ≡ answerNumber (judgeCheck file memory room)
   pub memory-left : memory′ ≡ memoryLeft file memory room
   pub room-left : room′ ≡ roomLeft file memory room

@@ -1,24 +1,42 @@
-// The hash and the judging of a run file for a C program to time: bench/ links these functions.
+// The hash, the MAC, attestation, the judging of a trace and of a run file for a C program to time: bench/ links these functions.
 use monitor::Traced;
+use refusal::Answer;
 use refusal::Refusal;
 ghost use mathlib.Core.Path.{_≡_};
+ghost use lib.ListN.{length};
 ghost use Rattle.speed.specs.Promises as P;
 
-// Stores the bytes that `hash` answers at the room's start; a room under 32 bytes is left as it is.
-#[no_mangle]
-pub extern "C" fn speed_hash(message: &[u8], room: &mut [u8])
-    ensures { λ _. ⌜ P.Stores (now (message .entry)) (now (room .entry)) (now (room .exit)) ⌝ }
+// 32 bytes at the room's start; a room under 32 bytes is left as it is.
+fn store(bytes: &[u8], room: &mut [u8])
+    requires { ⌜ length (now bytes) ≡ 32 ⌝ }
+    ensures { λ _. ⌜ now (room .exit) ≡ P.holding (now (bytes .entry)) (now (room .entry)) ⌝ }
 {
     if room.len() < 32 {
         return;
     }
-    let h = sha256::hash(message);
-    let d = h.bytes;
     let mut i = 0;
     while i < 32 {
-        room[i] = d[i];
+        room[i] = bytes[i];
         i += 1;
     }
+}
+
+// Stores the bytes that `hash` answers.
+#[no_mangle]
+pub extern "C" fn speed_hash(message: &[u8], room: &mut [u8])
+    ensures { λ _. ⌜ P.Stores (now (message .entry)) (now (room .entry)) (now (room .exit)) ⌝ }
+{
+    let d = sha256::hash(message).bytes;
+    store(&d, room);
+}
+
+// Stores the bytes that `mac` answers.
+#[no_mangle]
+pub extern "C" fn speed_mac(key: &[u8], message: &[u8], room: &mut [u8])
+    ensures { λ _. ⌜ P.StoresMac (now (key .entry)) (now (message .entry)) (now (room .entry)) (now (room .exit)) ⌝ }
+{
+    let d = hmac::mac(key, message).bytes;
+    store(&d, room);
 }
 
 fn number(r: Refusal) -> usize
@@ -27,14 +45,53 @@ fn number(r: Refusal) -> usize
     r.number as usize
 }
 
+// The number of the refusal, or 0.
+fn answered(a: Answer) -> usize
+    ensures { λ r. ⌜ r ≡ P.answerNumber a ⌝ }
+{
+    match a {
+        Answer::Done => 0,
+        Answer::Refused(r) => number(r),
+    }
+}
+
+// The same of a judged trace or file.
+fn traced(t: Traced) -> usize
+    ensures { λ r. ⌜ r ≡ P.tracedNumber t ⌝ }
+{
+    match t {
+        Traced::Judged(_) => 0,
+        Traced::Refused(r) => number(r),
+    }
+}
+
+// What `attest` leaves in memory, and the number of its refusal or 0.
+#[no_mangle]
+pub extern "C" fn speed_attest(memory: &mut [u8], layout: &[u8]) -> usize
+    ensures { λ r. ⌜ P.NumbersAttest (now (memory .entry)) (now (layout .entry)) (now (memory .exit)) r ⌝ }
+{
+    answered(board::attest(memory, layout))
+}
+
+// What `trace` leaves in memory and room, and the number of its refusal or 0.
+#[no_mangle]
+pub extern "C" fn speed_trace(
+    memory: &mut [u8],
+    layout: &[u8],
+    trace: &[u8],
+    room: &mut [u8],
+) -> usize
+    ensures { λ r. ⌜ P.NumbersTrace (now (memory .entry)) (now (layout .entry)) (now (trace .entry)) (now (room .entry))
+        (now (memory .exit)) (now (room .exit)) r ⌝ }
+{
+    traced(monitor::trace(memory, layout, trace, room))
+}
+
 // What `judge` leaves in memory and room, and the number of its refusal or 0.
 #[no_mangle]
 pub extern "C" fn speed_judge(file: &[u8], memory: &mut [u8], room: &mut [u8]) -> usize
     ensures { λ r. ⌜ P.Numbers (now (file .entry)) (now (memory .entry)) (now (room .entry))
         (now (memory .exit)) (now (room .exit)) r ⌝ }
 {
-    match runfile::judge(file, memory, room) {
-        Traced::Judged(_) => 0,
-        Traced::Refused(r) => number(r),
-    }
+    traced(runfile::judge(file, memory, room))
 }

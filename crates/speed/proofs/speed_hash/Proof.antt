@@ -1,72 +1,24 @@
 -- `speed::speed_hash` meets its contract. Assumes nothing.
-use mathlib.Core.Path.{_≡_, refl}
-use Prim.Native.Nat.{_≤_, _-_, _+_}
-use native.Mathlib.Omega.{arith}
-use borrow.Author.Tests.{lt-ltb, le-ltb}
-use lib.ListN.{length, length-set}
-use lib.Seq.{paste, paste-zero, take-all}
-use Rattle.sha256.proofs.Lists.{copy-more}
+use Rattle.speed.proofs.Rooms.{holds}
 use borrow.Author.Needs.{needs}
 use Rattle.speed.proofs.speed_hash.Statement.{statement}
 use Rattle.speed.proofs.speed_hash.Tie as tie
 
-abbrev Inv-loop : tie.InvT-loop
-Inv-loop message room₀ d i₀ room i = (i ≤ 32) × (length d ≡ 32) × (length room ≡ length room₀) × (room ≡ paste room₀ 0 d i)
-
-abbrev μ-loop : tie.MeasureT-loop
-μ-loop message room₀ d i₀ room i = 32 - i
-
-returns : tie.Need-returns Inv-loop μ-loop
-returns c = simp (lt-ltb _ _ (c .if1 .taken))
-
-hash-requires : tie.Need-hash-requires Inv-loop μ-loop
+hash-requires : tie.Need-hash-requires
 hash-requires c κs = search needs
 
-loop-holds : tie.Need-loop-holds Inv-loop μ-loop
-loop-holds c = (omega arith, search needs, refl, paste-zero _ 0 (c .before .hash .result .bytes))
+slice-aggregate-store : tie.Need-slice-aggregate-store
+slice-aggregate-store c = search needs
 
-array-read-room : tie.Need-array-read-room Inv-loop μ-loop
-array-read-room c = search needs
+store-requires : tie.Need-store-requires
+store-requires c κs = search needs
 
-slice-write-room : tie.Need-slice-write-room Inv-loop μ-loop
-slice-write-room c = search needs
-
-add-i : tie.Need-add-i Inv-loop μ-loop
-add-i c = search needs
-
-loop-less : tie.Need-loop-less Inv-loop μ-loop
-loop-less c = search needs
-
-loop-again : tie.Need-loop-again Inv-loop μ-loop
-loop-again c =
-    let l = c .before .loop in
-    let z = c .before .before .before .before .before .before .before .args in
-    let e : 0 + l .i ≡ l .i = omega arith in
-    (omega arith, l .inv .1, simp length-set (omega arith), cc (copy-more (z .room .now) (c .before .before .before .hash .result .bytes) (l .room) 0 (l .i) (omega arith) (omega arith) (l .inv .3)))
-
-same-length : tie.Need-same-length Inv-loop μ-loop
+same-length : tie.Need-same-length
 same-length c = search needs
 
-returns-2 : tie.Need-returns-2 Inv-loop μ-loop
-returns-2 c =
-    let l = c .before .loop in
-    let h = c .before .before .before in
-    let e : l .i ≡ 32 = omega arith in
-    simp (le-ltb _ _ (h .before .if1 .left)) (cc (take-all 32 (h .hash .result .bytes) (omega arith)))
+returns : tie.Need-returns
+returns c = holds _ _ (c .before .before .before .before .before .before .before .before .before .args .room .now) _ (c .before .before .store .ensures) (c .before .before .before .before .before .before .hash .ensures .given)
 
 pub speed-hash-spec : {M : Type 1} → statement M
 speed-hash-spec =
-    tie.close
-    (tie.spec
-    Inv-loop
-    μ-loop
-    returns
-    hash-requires
-    loop-holds
-    array-read-room
-    slice-write-room
-    add-i
-    loop-less
-    loop-again
-    same-length
-    returns-2)
+    tie.close (tie.spec hash-requires slice-aggregate-store store-requires same-length returns)

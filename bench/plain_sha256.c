@@ -1,10 +1,7 @@
 // SHA-256 in plain C, as FIPS 180-4 reads: the peer that shows what the proved code costs against the same algorithm
-// in C. Nothing is unrolled or kept in a window by hand; bench/run renames the function for each compiler.
-#include <stddef.h>
-#include <stdint.h>
+// in C. Nothing is unrolled or kept in a window by hand.
+#include "plain.h"
 #include <string.h>
-
-void plain_sha256(const uint8_t *message, size_t length, uint8_t digest[32]);
 
 static const uint32_t K[64] = {
     0x428a2f98, 0x71374491, 0xb5c0fbcf, 0xe9b5dba5, 0x3956c25b, 0x59f111f1, 0x923f82a4, 0xab1c5ed5,
@@ -15,6 +12,10 @@ static const uint32_t K[64] = {
     0xa2bfe8a1, 0xa81a664b, 0xc24b8b70, 0xc76c51a3, 0xd192e819, 0xd6990624, 0xf40e3585, 0x106aa070,
     0x19a4c116, 0x1e376c08, 0x2748774c, 0x34b0bcb5, 0x391c0cb3, 0x4ed8aa4a, 0x5b9cca4f, 0x682e6ff3,
     0x748f82ee, 0x78a5636f, 0x84c87814, 0x8cc70208, 0x90befffa, 0xa4506ceb, 0xbef9a3f7, 0xc67178f2,
+};
+
+static const uint32_t INITIAL[8] = {
+    0x6a09e667, 0xbb67ae85, 0x3c6ef372, 0xa54ff53a, 0x510e527f, 0x9b05688c, 0x1f83d9ab, 0x5be0cd19,
 };
 
 static uint32_t rotr(uint32_t x, int n) { return x >> n | x << (32 - n); }
@@ -60,26 +61,59 @@ static void compress(uint32_t hash[8], const uint8_t *block)
     hash[7] += h;
 }
 
-void plain_sha256(const uint8_t *message, size_t length, uint8_t digest[32])
+// The whole blocks of the bytes.
+static void compress_all(uint32_t hash[8], const uint8_t *bytes, size_t length)
 {
-    uint32_t hash[8] = {
-        0x6a09e667, 0xbb67ae85, 0x3c6ef372, 0xa54ff53a, 0x510e527f, 0x9b05688c, 0x1f83d9ab, 0x5be0cd19,
-    };
-    size_t rest = length;
-    for (; rest >= 64; rest -= 64, message += 64)
-        compress(hash, message);
+    for (; length >= 64; length -= 64, bytes += 64)
+        compress(hash, bytes);
+}
 
-    // Section 5.1.1: what is left, a 1 bit, zeros, and the length in bits: one block, or two if it does not fit.
+// Section 5.1.1: what is left, a 1 bit, zeros, and the length in bits: one block, or two if it does not fit.
+static void finish(uint32_t hash[8], const uint8_t *left, uint64_t total, uint8_t digest[32])
+{
     uint8_t last[128] = {0};
-    size_t end = rest < 56 ? 64 : 128;
-    memcpy(last, message, rest);
+    size_t rest = total % 64, end = rest < 56 ? 64 : 128;
+    memcpy(last, left, rest);
     last[rest] = 0x80;
     for (int i = 0; i < 8; i++)
-        last[end - 1 - i] = (uint8_t)((uint64_t)length * 8 >> 8 * i);
-    compress(hash, last);
-    if (end == 128)
-        compress(hash, last + 64);
-
+        last[end - 1 - i] = (uint8_t)(total * 8 >> 8 * i);
+    compress_all(hash, last, end);
     for (int i = 0; i < 32; i++)
         digest[i] = (uint8_t)(hash[i / 4] >> (24 - i % 4 * 8));
+}
+
+void sha256_of(const uint8_t *message, size_t length, uint8_t digest[32])
+{
+    uint32_t hash[8];
+    memcpy(hash, INITIAL, sizeof hash);
+    compress_all(hash, message, length);
+    finish(hash, message + length / 64 * 64, length, digest);
+}
+
+void sha256_start(struct sha256 *s)
+{
+    memcpy(s->hash, INITIAL, sizeof s->hash);
+    s->total = 0;
+}
+
+void sha256_add(struct sha256 *s, const uint8_t *bytes, size_t length)
+{
+    size_t filled = s->total % 64;
+    s->total += length;
+    if (filled != 0) {
+        size_t more = length < 64 - filled ? length : 64 - filled;
+        memcpy(s->block + filled, bytes, more);
+        if (filled + more < 64)
+            return;
+        compress(s->hash, s->block);
+        bytes += more;
+        length -= more;
+    }
+    compress_all(s->hash, bytes, length);
+    memcpy(s->block, bytes + length / 64 * 64, length % 64);
+}
+
+void sha256_end(struct sha256 *s, uint8_t digest[32])
+{
+    finish(s->hash, s->block, s->total, digest);
 }

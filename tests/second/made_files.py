@@ -12,8 +12,8 @@ import board
 import made_layouts
 import page
 from board import DMA, READS
-from made_cases import SPOILERS, spoilt
 from made_layouts import PAGE, changed, sized
+from made_traces import SPOILERS, spoilt
 from page import ALL_CR, AR_FROM_KR, CLEAN, REVERSED_AR_SHORT_KR, SHORT_MR_SHORT_CTR, UNCLEAN, step_bytes
 
 JUDGED = "step cause cpu dma"

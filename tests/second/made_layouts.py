@@ -48,6 +48,23 @@ GOOD = (
     shaped((0x6A40, 0x6A4F), 0x6A00, (0x6A50, 0x6A5F), sized(0x6A60, 97), 0x69E0, (0x6AC1, 0x6AC2)),
 )
 
+# With more of what attestation reads and writes: AR, MR and CTR at the ends of the memory, and of many sizes.
+ALL_GOOD = (
+    *GOOD,
+    # KR at 0, and AR has all that is left, to the highest address.
+    shaped((64, 64), 0, (65, 65), sized(66, 96), 162, (194, 0xFFFF)),
+    # AR shares all of CR and is larger.
+    shaped((0x8000, 0x80FF), 0x0040, (0x0080, 0x00FF), (0x0100, 0x01FF), 0x0200, (0x8000, 0xFEFF)),
+    # MR ends at the highest address, behind CTR and AR.
+    shaped((0x1000, 0x10FF), 0x0F00, (0x0E00, 0x0EFF), (0xFFA0, 0xFFFF), 0xFF80, (0xFF00, 0xFF7F)),
+    # MR is half of the memory.
+    shaped((0x1000, 0x10FF), 0x0F00, (0x0E00, 0x0EFF), (0x8000, 0xFFFF), 0x7FE0, (0x7000, 0x7FDF)),
+    # AR of one address between MR and CTR.
+    shaped((0x4000, 0x43FF), 0x3000, (0x3100, 0x31FF), sized(0x2000, 96), 0x2061, (0x2060, 0x2060)),
+    # AR between CTR and MR, with KR behind.
+    shaped((0x4000, 0x43FF), 0x2200, (0x2240, 0x22FF), (0x2160, 0x21FF), 0x2040, (0x2060, 0x215F)),
+)
+
 
 def reversed_layouts() -> Iterator[bytes]:
     """Regions reversed, by one address and by many, alone and with a later one, and with every other ground."""
@@ -108,7 +125,7 @@ def layouts() -> list[bytes]:
     return [*GOOD, layout_bytes(APART), *(layout for maker in makers for layout in maker())]
 
 
-# One layout for each ground, to be refused by the calls that judge. The last also has every later ground.
+# The page's layout with some ground to refuse it; one of them has every ground but the length.
 REFUSED = (
     page.LAYOUT[:23],
     page.LAYOUT + b"\0",
@@ -117,4 +134,13 @@ REFUSED = (
     changed(PAGE, cr=(0, 0xFF)),
     changed(PAGE, xs=(0x31F, 0x7FF)),
     changed(PAGE, ar=(0xFFFF, 0xE000), kr=sized(0x6A00, 63), cr=(0, 0xFF), xs=(0x31F, 0x7FF)),
+    b"",
+    page.LAYOUT * 2,
+    changed(PAGE, ar=(0xFFFF, 0xE000)),
+    changed(PAGE, kr=sized(0x6A00, 65)),
+    changed(PAGE, mr=sized(0x230, 95)),
+    changed(PAGE, cr=(0, 0)),
+    changed(PAGE, ar=(0x28F, 0x2FF)),
+    changed(PAGE, ar=(0x31F, 0x3FF)),
+    changed(PAGE, ar=(0x6A3F, 0x6AFF)),
 )

@@ -12,9 +12,9 @@ import made_files
 import made_layouts
 import page
 from board import DMA, READS, WRITES
-from made_cases import spoilt
 from made_files import JUDGED, Case, filed, reads, renumbered, segment
-from made_traces import Draw, Places, sweep, walk
+from made_memories import places_of
+from made_traces import Draw, spoilt, sweep, walk
 from page import AR_FROM_KR, CLEAN, UNCLEAN, step_bytes
 
 # The longest file that the program reads, and the longest text of any file.
@@ -99,12 +99,6 @@ def drawn_segments(draw: Draw, most: int) -> bytes:
         made += segment(start, contents)
         start += len(contents) + (0 if draw.chance(30) else draw.below(0x3000))
     return made
-
-
-def places_of(layout: bytes) -> Places:
-    regions = board.check_layout(layout)
-    assert isinstance(regions, board.Layout)
-    return Places(regions)
 
 
 def drawn_parts(draw: Draw, steps: int) -> Parts:

@@ -7,7 +7,7 @@ from __future__ import annotations
 from itertools import product
 from typing import Iterator, Sequence, TypeVar
 
-from board import DMA, DMA_WRITES, INTERRUPT, READS, WRITES, Layout, Monitor
+from board import DMA, DMA_WRITES, INTERRUPT, READS, STEP_BYTES, WRITES, Layout, Monitor
 from page import step_bytes
 
 T = TypeVar("T")
@@ -33,6 +33,9 @@ class Draw:
     def chance(self, percent: int) -> bool:
         return self.below(100) < percent
 
+    def bytes(self, length: int) -> bytes:
+        return bytes(self.below(256) for _ in range(length))
+
 
 class Places:
     """Addresses of interest in a layout."""
@@ -42,7 +45,7 @@ class Places:
         for region in layout:
             low, high = region[0], region[-1]
             near |= {low - 1, low, low + 1, (low + high) // 2, high - 1, high, high + 1}
-        self.all = sorted(near & set(range(TOP + 1)))
+        self.all = sorted(a for a in near if 0 <= a <= TOP)
         self.low, self.high = layout.cr[0], layout.cr[-1]
         self.key = layout.kr[0]
         self.inside = [a for a in self.all if a in layout.cr]
@@ -50,6 +53,21 @@ class Places:
         self.public = [a for a in self.all if not (a in layout.kr or a in layout.xs or a in layout.ctr)]
         self.doors = sorted({0, TOP, self.low - 1, *self.inside, self.high + 1} & set(self.all))
         self.own = [a for a in self.all if a in layout.xs or a in layout.mr or a in layout.ctr]
+
+
+# Each zero bit of the flags, and each zero byte.
+SPOILERS = ((6, 0x20), (6, 0x40), (6, 0x80), (9, 0x01), (10, 0x80), (11, 0x10))
+
+
+def storing(steps: int) -> bytes:
+    """Steps that each store a byte into AR of the page's layout."""
+    return b"".join(step_bytes(0, 0xE000 + i, flags=WRITES, cpu_data=(91 * i + steps) % 256) for i in range(steps))
+
+
+def spoilt(trace: bytes, place: int, byte: int, bits: int) -> bytes:
+    """The trace with bits set in a byte of the step at a place."""
+    at = STEP_BYTES * place + byte
+    return trace[:at] + bytes((trace[at] | bits,)) + trace[at + 1 :]
 
 
 # Sweeps: each combination once. Code outside CR comes from address 0; code in CR has come in by its lowest address.

@@ -77,6 +77,8 @@ def running_lines() -> Iterator[str]:
     yield f"finish parts {len(message)} {digest}"
     yield take_in_line("parts", whole, b"x")
     yield f"finish parts {len(message)} {digest}"
+    yield take_in_line("started", hashes.START, b"")
+    yield finish_line("started", hashes.START)
 
 
 def made_up_lines() -> Iterator[str]:

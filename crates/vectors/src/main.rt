@@ -12,6 +12,7 @@ fn cases_of(pattern: &Pattern) {
     lengths::keys(pattern);
     lengths::messages(pattern);
     running::in_parts(pattern);
+    running::started();
     running::made_up();
     running::to_the_limit(pattern);
 }

@@ -17,7 +17,7 @@ use Rattle.codecs.proofs.Laws.{bytes-back}
 use Rattle.frames.specs.declared.Framed.{Framed}
 use Rattle.frames.specs.declared.Framed.the-variants.{Needs, Whole, Cut}
 use Rattle.frames.specs.Calls.{most, counts, count, allowed}
-use Rattle.frames.specs.Frames.{size, behind, framedOne, andThen, framedFrom, framed, argumentFrom}
+use Rattle.frames.specs.Frames.{size, behind, framedOne, andThen, framedFrom, framed, firstArgument, skipped}
 use Rattle.frames.specs.Promises.{Copies}
 use Rattle.frames.specs.Streams.{sent, Lawful, WholeCall, BegunCall, IsCall, AsksForMore}
 use Rattle.frames.proofs.Walk.{not-whole, one-is-whole, one-cases}
@@ -96,15 +96,15 @@ whole-from n i used (a ∷ args) b f =
     ∙ whole-from n (suc i) (used + length a) args b (fits-behind n i used a args f)
 
 arguments-from : (n i used : ℕ) (args : List (List ℕ)) (b : List ℕ) → Fits n i used args
-    → (j : ℕ) → j < length args → argumentFrom j (sent args ++ b) ≡ getD args j []
-unfolding sent argumentFrom
+    → (j : ℕ) → j < length args → firstArgument (skipped j (sent args ++ b)) ≡ getD args j []
+unfolding sent skipped
 arguments-from n i used [] b f j h = absurd (omega (arith, h))
 arguments-from n i used (a ∷ args) b f zero h =
-    ap (argumentFrom 0) (append-assoc (little 4 (length a) ++ a) (sent args) b)
+    ap firstArgument (append-assoc (little 4 (length a) ++ a) (sent args) b)
     ∙ argument-sent a (sent args ++ b) (omega (arith, few-here n i used a args f))
 arguments-from n i used (a ∷ args) b f (suc j) h =
-    ap (argumentFrom (suc j)) (append-assoc (little 4 (length a) ++ a) (sent args) b)
-    ∙ ap (argumentFrom j) (behind-sent a (sent args ++ b) (omega (arith, few-here n i used a args f)))
+    ap (λ (d : List ℕ). firstArgument (skipped (suc j) d)) (append-assoc (little 4 (length a) ++ a) (sent args) b)
+    ∙ ap (λ (d : List ℕ). firstArgument (skipped j d)) (behind-sent a (sent args ++ b) (omega (arith, few-here n i used a args f)))
     ∙ arguments-from n (suc i) (used + length a) args b (fits-behind n i used a args f) j (omega arith)
 
 pub whole-call : WholeCall

@@ -13,7 +13,7 @@ use Rattle.codecs.proofs.Laws.{number-back}
 use Rattle.frames.specs.declared.Framed.{Framed}
 use Rattle.frames.specs.declared.Framed.the-variants.{Whole}
 use Rattle.frames.specs.Calls.{most, count, allowed}
-use Rattle.frames.specs.Frames.{size, behind, framedOne, andThen, framedFrom}
+use Rattle.frames.specs.Frames.{size, behind, framedOne, andThen, framedFrom, firstArgument}
 use Rattle.frames.specs.Streams.{together, Lawful}
 use Rattle.frames.proofs.Walk.{one-whole, from-suc}
 
@@ -106,7 +106,7 @@ module _ (a s : List ℕ) where
         ap (λ (k : ℕ). drop (4 + k) (little 4 (length a) ++ a ++ s)) size-sent
         ∙ drop-at (little 4 (length a) ++ a) s (4 + length a) length-front
 
-    pub argument-sent : take (size (little 4 (length a) ++ a ++ s)) (drop 4 (little 4 (length a) ++ a ++ s)) ≡ a
+    pub argument-sent : firstArgument (little 4 (length a) ++ a ++ s) ≡ a
     argument-sent =
         ap (λ (k : ℕ). take k (drop 4 (little 4 (length a) ++ a ++ s))) size-sent
         ∙ ap (λ (d : List ℕ). take (length a) (drop 4 d)) (append-assoc (little 4 (length a)) a s)

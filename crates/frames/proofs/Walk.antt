@@ -14,9 +14,9 @@ use Rattle.codecs.specs.Numbers.{number}
 use Rattle.frames.specs.declared.Framed.{Framed}
 use Rattle.frames.specs.declared.Framed.the-variants.{Needs, Whole, Cut}
 use Rattle.frames.specs.Calls.{most, counts, count, allowed}
-use Rattle.frames.specs.Frames.{size, behind, framedOne, andThen, framedFrom, framed, argumentFrom, argument}
+use Rattle.frames.specs.Frames.{size, behind, framedOne, andThen, framedFrom, framed, firstArgument, skipped, argument}
 use Rattle.frames.specs.Promises.{Copies}
-use Rattle.frames.specs.Walk.{isWhole, skipped}
+use Rattle.frames.specs.Walk.{isWhole}
 
 -- ---- answers
 
@@ -305,11 +305,6 @@ framed-listed (n ∷ b) m r h e z f =
 
 -- ---- an argument
 
-argument-skipped : (i : ℕ) (b : List ℕ) → argumentFrom i b ≡ take (size (skipped i b)) (drop 4 (skipped i b))
-unfolding argumentFrom skipped
-argument-skipped zero b = refl
-argument-skipped (suc i) b = argument-skipped i (behind b)
-
 min-first : (f a b : ℕ) → f ≡ min a b → f ≤ a
 min-first f a b e = omega arith
 
@@ -352,8 +347,7 @@ module _ (b : List ℕ) (i : ℕ) (room room′ : List ℕ) (at k s size′ f r 
 
   is-argument : argument b i ≡ take size′ t
   is-argument =
-      argument-skipped i (drop 1 b)
-      ∙ ap (λ (d : List ℕ). take (size d) (drop 4 d)) (place .1)
+      ap firstArgument (place .1)
       ∙ ap (take (size (drop at b))) behind-length
       ∙ ap (λ (n : ℕ). take n t) (sym es)
       ∙ cases (ltb s (length t))

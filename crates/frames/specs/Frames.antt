@@ -40,11 +40,14 @@ unfoldable pub framed : List ℕ → Framed
 framed [] = Needs 1
 framed (n ∷ b) = pick (eqb (count n) 0) Cut (framedFrom n 0 (count n) 0 b)
 
--- argument i of those that begin these bytes
-unfoldable pub argumentFrom : ℕ → List ℕ → List ℕ
-argumentFrom zero b = take (size b) (drop 4 b)
-argumentFrom (suc i) b = argumentFrom i (behind b)
+-- the argument that begins these bytes, and what is left behind their first i arguments
+abbrev pub firstArgument : List ℕ → List ℕ
+firstArgument b = take (size b) (drop 4 b)
 
--- argument i of a call
+unfoldable pub skipped : ℕ → List ℕ → List ℕ
+skipped zero b = b
+skipped (suc i) b = skipped i (behind b)
+
+-- argument i of a call stands behind its number and the arguments before it
 abbrev pub argument : List ℕ → ℕ → List ℕ
-argument b i = argumentFrom i (drop 1 b)
+argument b i = firstArgument (skipped i (drop 1 b))

@@ -143,7 +143,7 @@ pub fn frame(bytes: &[u8]) -> Framed
 
 // Where argument i begins, or the end of the bytes if there is none.
 fn begin(bytes: &[u8], i: usize) -> usize
-    ensures { λ r. ⌜ (r ≤ length (now (bytes .entry))) × (W.skipped i (drop 1 (now (bytes .entry))) ≡ drop r (now (bytes .entry))) ⌝ }
+    ensures { λ r. ⌜ (r ≤ length (now (bytes .entry))) × (F.skipped i (drop 1 (now (bytes .entry))) ≡ drop r (now (bytes .entry))) ⌝ }
 {
     let n = bytes.len();
     if n == 0 {

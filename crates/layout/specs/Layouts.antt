@@ -14,6 +14,13 @@ use Rattle.layout.specs.declared.Region.{Region}
 use Rattle.layout.specs.declared.Layout.{Layout}
 use Rattle.layout.specs.Regions.{within, reversed, size, shares}
 
+-- the bytes of a layout, and how many regions they describe
+abbrev pub layoutBytes : ℕ
+layoutBytes = 24
+
+abbrev pub regions : ℕ
+regions = 6
+
 -- the regions' numbers
 abbrev pub CR : ℕ
 CR = 0
@@ -66,22 +73,22 @@ mayShare i j = eqb i CR && eqb j AR
 abbrev pub collide : List ℕ → ℕ → ℕ → Bool
 collide b i j = not (mayShare i j) && shares (region b i) (region b j)
 
--- the first region that is reversed, the first of a wrong size; 6 if there is none
+-- the first region that is reversed, the first of a wrong size; their number if there is none
 abbrev pub firstReversed : List ℕ → ℕ
-firstReversed b = first 6 (λ k. reversed (region b k))
+firstReversed b = first regions (λ k. reversed (region b k))
 
 abbrev pub firstWrongSize : List ℕ → ℕ
-firstWrongSize b = first 6 (λ k. wrongSize k (region b k))
+firstWrongSize b = first regions (λ k. wrongSize k (region b k))
 
--- the pair of regions with the smallest number, 6 times the lower one's plus the higher one's, that collide; 36 if none do
+-- the pair of regions with the smallest number, six times the lower one's plus the higher one's, that collide; 36 if none do
 abbrev pub firstCollision : List ℕ → ℕ
-firstCollision b = first 36 (λ n. ltb (n / 6) (n % 6) && collide b (n / 6) (n % 6))
+firstCollision b = first (regions * regions) (λ n. ltb (n / regions) (n % regions) && collide b (n / regions) (n % regions))
 
 -- refusals 2 to 6, in the page's order
 unfoldable pub layoutCheck : List ℕ → Answer
 layoutCheck b =
-    pick (not (eqb (length b) 24)) (refusedAt layoutSize 0)
-    (pick (ltb (firstReversed b) 6) (refusedAt regionReversed (firstReversed b))
-    (pick (ltb (firstWrongSize b) 6) (refusedAt regionSize (firstWrongSize b))
+    pick (not (eqb (length b) layoutBytes)) (refusedAt layoutSize 0)
+    (pick (ltb (firstReversed b) regions) (refusedAt regionReversed (firstReversed b))
+    (pick (ltb (firstWrongSize b) regions) (refusedAt regionSize (firstWrongSize b))
     (pick (within (region b CR) 0) (refusedAt zeroInCode 0)
-    (pick (ltb (firstCollision b) 36) (refusedAt regionsShare 0) Done))))
+    (pick (ltb (firstCollision b) (regions * regions)) (refusedAt regionsShare 0) Done))))

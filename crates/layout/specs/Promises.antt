@@ -1,16 +1,23 @@
 -- What the check of a layout, and that of a call on a memory, promise, for all inputs. Assumes nothing.
 use mathlib.Core.Path.{_≡_}
+use mathlib.Core.Bool.{Bool}
 use mathlib.Core.List.{List, [], _∷_}
 use Prim.Native.Nat.{ℕ}
 use Rattle.refusal.specs.Answers as A
 use Rattle.refusal.specs.Answers.{told}
 use Rattle.refusal.specs.declared.Answer.{Answer}
 use Rattle.refusal.specs.declared.Answer.the-variants as answer
+use Rattle.layout.specs.declared.Region.{Region}
 use Rattle.layout.specs.declared.Layout.{Layout}
 use Rattle.layout.specs.declared.Checked.{Checked}
 use Rattle.layout.specs.declared.Checked.the-variants.{Good, Refused}
+use Rattle.layout.specs.Regions.{within}
 use Rattle.layout.specs.Layouts.{layoutOf, layoutCheck}
 use Rattle.layout.specs.Calls.{callCheck}
+
+-- `Region::holds`: whether the address is in the region
+abbrev pub Holds : Region → ℕ → Bool → Type 0
+Holds g a r = r ≡ within g a
 
 -- a layout's twelve numbers
 abbrev pub values : Layout → List ℕ

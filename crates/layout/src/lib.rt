@@ -47,7 +47,7 @@ const AR: usize = 5;
 
 impl Region {
     pub fn holds(self, a: u16) -> bool
-        ensures { λ r. ⌜ r ≡ R.within self a ⌝ }
+        ensures { λ r. ⌜ P.Holds self a r ⌝ }
     {
         (self.lo <= a) & (a <= self.hi)
     }

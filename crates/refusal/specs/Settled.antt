@@ -1,10 +1,11 @@
--- A row settles its answer. Assumes nothing.
-use mathlib.Core.Path.{_≡_, refl, ap, _∙_}
+-- A row settles its answer, and an equation its result. Assumes nothing.
+use mathlib.Core.Path.{_≡_, refl, sym, ap, _∙_}
 use Prim.Native.Nat.{ℕ}
 use native.Mathlib.Omega.{arith}
 use Rattle.refusal.specs.declared.Answer.{Answer}
 use Rattle.refusal.specs.declared.Answer.the-variants.{Done, Refused}
 use Rattle.refusal.specs.Answers.{row}
+use Rattle.refusal.specs.Promises.{RefusesWith}
 
 pub row-settled : (a b : Answer) → row a ≡ row b → a ≡ b
 row-settled Done Done e = refl
@@ -15,3 +16,10 @@ row-settled (Refused r) (Refused s) e =
     let p : r .place ≡ s .place = cc in
     ap (λ (x : ℕ). Refused (record { number = x; place = r .place })) n
     ∙ ap (λ (x : ℕ). Refused (record { number = s .number; place = x })) p
+
+-- a promise that is an equation with a function of the inputs, as many are, is met by one result
+pub equation-settled : {A : Type 0} {x : A} (r q : A) → r ≡ x → q ≡ x → r ≡ q
+equation-settled r q p p′ = p ∙ sym p′
+
+pub refuses-with-settled : (n : ℕ) (r q : Answer) → RefusesWith n r → RefusesWith n q → r ≡ q
+refuses-with-settled n r q p p′ = row-settled r q (p ∙ sym p′)

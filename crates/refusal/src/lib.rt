@@ -1,7 +1,5 @@
 // A refusal of the rules page, the page's refusal numbers under names, and the answer of a call that is done or refused.
-ghost use mathlib.Core.Path.{_≡_};
-ghost use Rattle.refusal.specs.Answers.{row, refusedWith};
-ghost use Rattle.refusal.specs.Numbers as S;
+ghost use Rattle.refusal.specs.Promises as P;
 
 // What was refused, and where: the place is 0 unless the page names one.
 pub struct Refusal {
@@ -17,7 +15,7 @@ pub enum Answer {
 
 // Refused with a number for which the page names no place.
 pub fn refused(number: u8) -> Answer
-    ensures { λ r. ⌜ row r ≡ refusedWith number ⌝ }
+    ensures { λ r. ⌜ P.RefusesWith number r ⌝ }
 {
     Answer::Refused(Refusal { number, place: 0 })
 }
@@ -54,7 +52,7 @@ pub const FILE_SIZE: u8 = 15;
 
 // The constants in the page's order. Its contract ties each of them to the name that specs/ has for it.
 pub fn numbers() -> [u8; 15]
-    ensures { λ r. ⌜ r ≡ S.numbers ⌝ }
+    ensures { λ r. ⌜ P.ListsNumbers r ⌝ }
 {
     [
         MEMORY_SIZE,

@@ -4,8 +4,8 @@ ghost use mathlib.Core.Path.{_≡_};
 ghost use mathlib.Core.Bool.{not, _&&_, _||_};
 ghost use lib.Dec.{eqb};
 ghost use Rattle.layout.specs.Regions.{within};
-ghost use Rattle.rules.specs.Steps as S;
 ghost use Rattle.rules.specs.Rules as R;
+ghost use Rattle.rules.specs.Promises as P;
 
 // A step: the addresses and data of CPU and DMA, and the flag bits. `active` and `stores` are the DMA's two.
 pub struct Step {
@@ -45,7 +45,7 @@ const HELD: u8 = 15;
 
 // The step that 12 bytes tell.
 pub fn decode(b: [u8; 12]) -> Step
-    ensures { λ r. ⌜ r ≡ S.stepOf b ⌝ }
+    ensures { λ r. ⌜ P.Decodes b r ⌝ }
 {
     let flags = b[6];
     Step {
@@ -64,7 +64,7 @@ pub fn decode(b: [u8; 12]) -> Step
 
 // The zero bits and bytes of a step's 12 bytes are zero.
 pub fn clean(b: [u8; 12]) -> bool
-    ensures { λ r. ⌜ r ≡ S.clean b ⌝ }
+    ensures { λ r. ⌜ P.IsClean b r ⌝ }
 {
     (b[6] < 32) & (b[9] == 0) & (b[10] == 0) & (b[11] == 0)
 }
@@ -160,7 +160,7 @@ fn visits(l: Layout, m: Monitor, s: Step) -> bool
 
 // Why the step resets, and 0 if it does not.
 pub fn cause(l: Layout, m: Monitor, s: Step) -> u8
-    ensures { λ r. ⌜ r ≡ R.cause l m s ⌝ }
+    ensures { λ r. ⌜ P.GivesCause l m s r ⌝ }
 {
     if m.held & (s.pc != 0) {
         return HELD;

@@ -1,5 +1,5 @@
--- What the public functions promise, for all inputs. `Starts`, `TakesIn`, `Finishes`, `Digests` and `Hashes` are the contracts of the functions
--- so named; `Gives` is the shape of every answer of 32 bytes, here and in the crates above.
+-- What the public functions promise, for all inputs. `Starts`, `TakesIn`, `Finishes`, `IsBlock`, `Digests` and `Hashes` are the contracts of the
+-- functions so named; `Gives` is the shape of every answer of 32 bytes, here and in the crates above.
 -- Assumes nothing.
 use mathlib.Core.Path.{_≡_}
 use mathlib.Core.Bool.{Bool}
@@ -14,7 +14,7 @@ use Rattle.sha256.specs.declared.Sha.{Sha}
 use Rattle.sha256.specs.declared.Taken.{Taken}
 use Rattle.sha256.specs.declared.Digest.{Digest}
 use Rattle.sha256.specs.Hash.{sha256}
-use Rattle.sha256.specs.Running.{started, taken, digest}
+use Rattle.sha256.specs.Running.{blockOf, started, taken, digest}
 
 -- the hash takes 0 to 131,072 bytes
 abbrev pub limit : ℕ
@@ -41,6 +41,10 @@ pub record TakesIn (s : Sha) (x : List ℕ) (r : Taken) : Type 0 where
 -- `Sha::finish`: refused exactly if the total is over the limit
 abbrev pub Finishes : Sha → Digest → Type 0
 Finishes s r = Gives (over (s .total)) (digest s) r
+
+-- `block_of`
+abbrev pub IsBlock : List ℕ → List ℕ → Type 0
+IsBlock b r = r ≡ blockOf b
 
 -- the standard has a digest of messages whose length in bits is below 2^64
 abbrev pub beyond : ℕ → Bool

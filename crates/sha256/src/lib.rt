@@ -95,7 +95,7 @@ fn put(block: [u8; 64], at: usize, x: &[u8]) -> [u8; 64]
 
 // The first 64 of the bytes, with zeros behind them.
 pub fn block_of(bytes: &[u8]) -> [u8; 64]
-    ensures { λ r. ⌜ r ≡ R.blockOf (now (bytes .entry)) ⌝ }
+    ensures { λ r. ⌜ P.IsBlock (now (bytes .entry)) r ⌝ }
 {
     if bytes.len() < 64 {
         return put([0u8; 64], 0, bytes);

@@ -3,3 +3,4 @@ pub mod Functions
 pub mod Constants
 pub mod Roots
 pub mod Block
+pub mod Promises

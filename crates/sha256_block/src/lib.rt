@@ -10,6 +10,7 @@ ghost use lib.ListN.{length, take};
 ghost use Rattle.sha256_block.specs.Words as W;
 ghost use Rattle.sha256_block.specs.Constants as C;
 ghost use Rattle.sha256_block.specs.Block as B;
+ghost use Rattle.sha256_block.specs.Promises as P;
 
 // The eight working variables.
 pub struct Vars {
@@ -25,7 +26,7 @@ pub struct Vars {
 
 // The initial hash value.
 pub fn initial() -> [u32; 8]
-    ensures { λ r. ⌜ r ≡ C.H ⌝ }
+    ensures { λ r. ⌜ P.IsInitial r ⌝ }
 {
     constants::H
 }
@@ -179,7 +180,7 @@ fn compress(k: &[u32; 64], s: [u32; 8], m: &[u8]) -> [u32; 8]
 
 // The hash value after the whole blocks of the bytes; what is left behind them is not looked at.
 pub fn blocks(words: [u32; 8], bytes: &[u8]) -> [u32; 8]
-    ensures { λ r. ⌜ r ≡ B.whole words (now (bytes .entry)) ⌝ }
+    ensures { λ r. ⌜ P.HashesBlocks words (now (bytes .entry)) r ⌝ }
 {
     let k = K;
     let n = bytes.len() / 64;

@@ -52,7 +52,7 @@ use Rattle.board.specs.Attestation.{attestCheck}
 use Rattle.station.specs.declared.Verdict.{Verdict}
 use Rattle.station.specs.declared.Verdict.the-variants as verdict
 use Rattle.station.specs.Promises as station
-use Rattle.station.specs.Settled.{verdict-settled}
+use Rattle.station.specs.Settled.{verdict-row-settled}
 use Rattle.runfile.specs.Contents as contents
 use Rattle.runfile.specs.Contents.{LAYOUT, MEMORY, TRACE, offset, begins, entryFails, firstFailing, fileCheck, body}
 use Rattle.runfile.specs.Segments.{startAt, sizeAt, place, reached, segments, segmentFails, firstWrong, segmentCheck}
@@ -335,8 +335,8 @@ told-nothing : (a : Answer) → A.row a ≡ told a []
 told-nothing call.Done = refl
 told-nothing (call.Refused q) = refl
 
-checked-rows : Rows Checked layouts.row checked.Refused
-checked-rows = record { refuses = λ q. refl; settled = settled.row-settled }
+checked-rows : Rows Checked layouts.checkedRow checked.Refused
+checked-rows = record { refuses = λ q. refl; settled = settled.checked-row-settled }
 
 traced-rows : Rows Traced tracedRow traced.Refused
 traced-rows = record { refuses = λ q. refl; settled = traced-row-settled }
@@ -344,8 +344,8 @@ traced-rows = record { refuses = λ q. refl; settled = traced-row-settled }
 stepped-rows : Rows Stepped steppedRow stepped.Refused
 stepped-rows = record { refuses = λ q. refl; settled = stepped-row-settled }
 
-verdict-rows : Rows Verdict station.row verdict.Refused
-verdict-rows = record { refuses = λ q. refl; settled = verdict-settled }
+verdict-rows : Rows Verdict station.verdictRow verdict.Refused
+verdict-rows = record { refuses = λ q. refl; settled = verdict-row-settled }
 
 read-rows : Rows Read readRow read.Refused
 read-rows = record { refuses = λ q. refl; settled = read-row-settled }
@@ -357,7 +357,7 @@ call-rows = record { refuses = λ q. refl; settled = row-settled }
 
 pub layout-answers : claim.LayoutAnswers
 layout-answers layout r p =
-    answers-told Unit (layouts.values (layoutOf layout)) r checked-rows (once-layout layout [] once-none) (follows-layout layout)
+    answers-told Unit (layouts.layoutValues (layoutOf layout)) r checked-rows (once-layout layout [] once-none) (follows-layout layout)
     (λ e. omega arith) (p .answered) (λ q e. tt)
 
 pub trace-answers : claim.TraceAnswers

@@ -29,7 +29,7 @@ use Rattle.routine.specs.Strings.{greater}
 use Rattle.routine.specs.Routine.{token}
 use Rattle.routine.proofs.Laws.{token-is}
 use Rattle.hmac.proofs.Laws.{length-hmac}
-use Rattle.routine.proofs.Order.{greater-irreflexive, greater-trans, number-greater}
+use Rattle.routine.proofs.Order.{greater-irreflexive, greater-trans, weight-greater}
 use Rattle.board.specs.Memory.{key, counter, challenge}
 use Rattle.board.specs.Attestation.{attestCheck, accepted}
 use Rattle.board.specs.Promises.{Attests}
@@ -177,7 +177,7 @@ numbers-increase h i j c d u v a b t =
     let p = accepted-advances h i c a in
     let q = accepted-advances h j d b in
     let at = layoutOf (h .layout) .mr .lo in
-    number-greater d c (ap length (b .request) ∙ q .long ∙ sym (ap length (a .request) ∙ p .long))
+    weight-greater d c (ap length (b .request) ∙ q .long ∙ sym (ap length (a .request) ∙ p .long))
     (rw (b .request) (bytes-read (h .memories j) at 32 v))
     (rw (a .request) (bytes-read (h .memories i) at 32 u))
     (increase h i j c d a b t)

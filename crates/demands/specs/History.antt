@@ -21,7 +21,7 @@ use Rattle.monitor.specs.declared.Stepped.{Stepped}
 use Rattle.monitor.specs.declared.Traced.{Traced}
 use Rattle.monitor.specs.Runs.{count, steps, begin, before}
 use Rattle.monitor.specs.Promises.{Steps, Traces}
-use Rattle.routine.specs.Strings.{greater, number}
+use Rattle.routine.specs.Strings.{greater, weight}
 use Rattle.board.specs.Memory.{bytesOf, key, counter, challenge, received}
 use Rattle.board.specs.Promises.{Attests}
 
@@ -111,7 +111,7 @@ Increase = (h : History) (i j : ℕ) (c d : List ℕ) → Accepted h i c → Acc
 abbrev pub NumbersIncrease : Type 0
 NumbersIncrease =
     (h : History) (i j : ℕ) (c d : List ℕ) → Bytes (h .memories i) → Bytes (h .memories j)
-    → Accepted h i c → Accepted h j d → i < j → number c < number d
+    → Accepted h i c → Accepted h j d → i < j → weight c < weight d
 
 -- no challenge is accepted twice
 abbrev pub NeverTwice : Type 0

@@ -18,7 +18,7 @@ use Rattle.layout.specs.declared.Layout.{Layout}
 use Rattle.layout.specs.declared.Checked.the-variants as checked
 use Rattle.layout.specs.Layouts.{layoutOf, layoutCheck}
 use Rattle.layout.specs.Calls.{memoryBytes, callCheck}
-use Rattle.layout.specs.Promises.{row, Checks, Admits}
+use Rattle.layout.specs.Promises.{checkedRow, Checks, Admits}
 use Rattle.layout.proofs.Laws.{told-good, told-refused, layout-numbers}
 
 pub call-passed : (memory layout : List ℕ) (rest : Answer) → callCheck memory layout rest ≡ Done
@@ -56,7 +56,7 @@ module _ (memory layout : List ℕ) (rest : Answer) (long : length memory ≡ me
   pub admit-good : (l : Layout) → Checks layout (checked.Good l) → rest ≡ Done → Admits memory layout rest (checked.Good l)
   admit-good l p e =
       let g = told-good (layoutCheck layout) (layoutOf layout) l (p .answered) in
-      record { answered = simp (eq-eqb (length memory) memoryBytes long, g .0, e) (ap (λ (k : Layout). row (checked.Good k)) (g .1)) }
+      record { answered = simp (eq-eqb (length memory) memoryBytes long, g .0, e) (ap (λ (k : Layout). checkedRow (checked.Good k)) (g .1)) }
 
   pub admit-rest : (l : Layout) (r : Refusal) → Checks layout (checked.Good l) → rest ≡ Refused r → Admits memory layout rest (checked.Refused r)
   admit-rest l r p e =

@@ -23,8 +23,8 @@ use Rattle.layout.specs.declared.Checked.the-variants as checked
 use Rattle.layout.specs.Regions.{within, reversed, size, shares}
 use Rattle.layout.specs.Layouts.{CR, KR, XS, MR, CTR, AR, region, layoutOf, wrongSize, mayShare, collide, layoutCheck}
 use Rattle.layout.specs.Layouts.{firstReversed, firstWrongSize, firstCollision}
-use Rattle.layout.specs.Promises.{values, row, Checks}
-use Rattle.layout.specs.Settled.{row-settled, checks-settled}
+use Rattle.layout.specs.Promises.{layoutValues, checkedRow, Checks}
+use Rattle.layout.specs.Settled.{checked-row-settled, checks-settled}
 use Rattle.layout.specs.Good.{Good}
 
 -- ---- what `check` answers
@@ -33,12 +33,12 @@ abbrev pub checkedAs : Answer → Layout → Checked
 checkedAs Done l = checked.Good l
 checkedAs (Refused r) l = checked.Refused r
 
-row-checkedAs : (a : Answer) (l : Layout) → row (checkedAs a l) ≡ told a (values l)
+row-checkedAs : (a : Answer) (l : Layout) → checkedRow (checkedAs a l) ≡ told a (layoutValues l)
 row-checkedAs Done l = refl
 row-checkedAs (Refused r) l = refl
 
 pub is-checks : (b : List ℕ) (r : Checked) → r ≡ checkedAs (layoutCheck b) (layoutOf b) → Checks b r
-is-checks b r e = record { answered = ap row e ∙ row-checkedAs (layoutCheck b) (layoutOf b) }
+is-checks b r e = record { answered = ap checkedRow e ∙ row-checkedAs (layoutCheck b) (layoutOf b) }
 
 pub checks-is : (b : List ℕ) (r : Checked) → Checks b r → r ≡ checkedAs (layoutCheck b) (layoutOf b)
 checks-is b r p = checks-settled b r (checkedAs (layoutCheck b) (layoutOf b)) p (is-checks b (checkedAs (layoutCheck b) (layoutOf b)) refl)
@@ -52,11 +52,11 @@ from-refused Done l r e = absurd (let z : _≡_ {A = ℕ} 0 1 = cc in omega arit
 from-refused (Refused s) l r e = cc
 
 -- the same by the answer's two forms, whatever was checked
-pub told-good : (a : Answer) (l m : Layout) → row (checked.Good m) ≡ told a (values l) → (a ≡ Done) × (m ≡ l)
-told-good a l m e = from-good a l m (row-settled (checked.Good m) (checkedAs a l) (e ∙ sym (row-checkedAs a l)))
+pub told-good : (a : Answer) (l m : Layout) → checkedRow (checked.Good m) ≡ told a (layoutValues l) → (a ≡ Done) × (m ≡ l)
+told-good a l m e = from-good a l m (checked-row-settled (checked.Good m) (checkedAs a l) (e ∙ sym (row-checkedAs a l)))
 
-pub told-refused : (a : Answer) (l : Layout) (r : Refusal) → row (checked.Refused r) ≡ told a (values l) → a ≡ Refused r
-told-refused a l r e = from-refused a l r (row-settled (checked.Refused r) (checkedAs a l) (e ∙ sym (row-checkedAs a l)))
+pub told-refused : (a : Answer) (l : Layout) (r : Refusal) → checkedRow (checked.Refused r) ≡ told a (layoutValues l) → a ≡ Refused r
+told-refused a l r e = from-refused a l r (checked-row-settled (checked.Refused r) (checkedAs a l) (e ∙ sym (row-checkedAs a l)))
 
 -- ---- regions
 

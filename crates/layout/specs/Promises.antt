@@ -20,19 +20,19 @@ abbrev pub Holds : Region → ℕ → Bool → Type 0
 Holds g a r = r ≡ within g a
 
 -- a layout's twelve numbers
-abbrev pub values : Layout → List ℕ
-values l =
+abbrev pub layoutValues : Layout → List ℕ
+layoutValues l =
     l .cr .lo ∷ l .cr .hi ∷ l .kr .lo ∷ l .kr .hi ∷ l .xs .lo ∷ l .xs .hi ∷ l .mr .lo ∷ l .mr .hi ∷ l .ctr .lo ∷ l .ctr .hi ∷ l .ar .lo ∷ l .ar .hi ∷ []
 
 -- the row of the check's answer: 0 and the layout's numbers, or the refusal's number and place
-abbrev pub row : Checked → List ℕ
-row (Good l) = 0 ∷ values l
-row (Refused r) = A.row (answer.Refused r)
+abbrev pub checkedRow : Checked → List ℕ
+checkedRow (Good l) = 0 ∷ layoutValues l
+checkedRow (Refused r) = A.row (answer.Refused r)
 
 -- `check`: the layout that the bytes describe, or the refusal that they earn
 pub record Checks (b : List ℕ) (r : Checked) : Type 0 where
-  pub answered : row r ≡ told (layoutCheck b) (values (layoutOf b))
+  pub answered : checkedRow r ≡ told (layoutCheck b) (layoutValues (layoutOf b))
 
 -- `admit`: the layout that the bytes describe, or the refusal that the call earns by them, its memory and the rest
 pub record Admits (memory layout : List ℕ) (rest : Answer) (r : Checked) : Type 0 where
-  pub answered : row r ≡ told (callCheck memory layout rest) (values (layoutOf layout))
+  pub answered : checkedRow r ≡ told (callCheck memory layout rest) (layoutValues (layoutOf layout))

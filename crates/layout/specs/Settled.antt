@@ -8,7 +8,7 @@ use Rattle.refusal.specs.declared.Answer.{Answer}
 use Rattle.layout.specs.declared.Region.{Region}
 use Rattle.layout.specs.declared.Checked.{Checked}
 use Rattle.layout.specs.declared.Checked.the-variants.{Good, Refused}
-use Rattle.layout.specs.Promises.{row, Checks, Admits}
+use Rattle.layout.specs.Promises.{checkedRow, Checks, Admits}
 
 -- the answers that a row tells, read back from it
 abbrev pair : List ℕ → ℕ → Region
@@ -20,15 +20,15 @@ good v = Good (record { cr = pair v 1; kr = pair v 3; xs = pair v 5; mr = pair v
 abbrev refused : List ℕ → Checked
 refused v = Refused (record { number = getD v 0 0; place = getD v 1 0 })
 
-pub row-settled : (a b : Checked) → row a ≡ row b → a ≡ b
-row-settled (Good l) (Good m) e = ap good e
-row-settled (Good l) (Refused r) e = absurd (let z : _≡_ {A = ℕ} 0 1 = cc in omega arith)
-row-settled (Refused r) (Good l) e = absurd (let z : _≡_ {A = ℕ} 0 1 = cc in omega arith)
-row-settled (Refused r) (Refused s) e = ap refused e
+pub checked-row-settled : (a b : Checked) → checkedRow a ≡ checkedRow b → a ≡ b
+checked-row-settled (Good l) (Good m) e = ap good e
+checked-row-settled (Good l) (Refused r) e = absurd (let z : _≡_ {A = ℕ} 0 1 = cc in omega arith)
+checked-row-settled (Refused r) (Good l) e = absurd (let z : _≡_ {A = ℕ} 0 1 = cc in omega arith)
+checked-row-settled (Refused r) (Refused s) e = ap refused e
 
 pub checks-settled : (b : List ℕ) (r q : Checked) → Checks b r → Checks b q → r ≡ q
-checks-settled b r q p p′ = row-settled r q (p .answered ∙ sym (p′ .answered))
+checks-settled b r q p p′ = checked-row-settled r q (p .answered ∙ sym (p′ .answered))
 
 pub admits-settled : (memory layout : List ℕ) (rest : Answer) (r q : Checked)
     → Admits memory layout rest r → Admits memory layout rest q → r ≡ q
-admits-settled memory layout rest r q p p′ = row-settled r q (p .answered ∙ sym (p′ .answered))
+admits-settled memory layout rest r q p p′ = checked-row-settled r q (p .answered ∙ sym (p′ .answered))

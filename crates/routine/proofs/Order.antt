@@ -12,7 +12,7 @@ use lib.Dec.{ltb, eqb}
 use lib.ListN.{length}
 use Rattle.refusal.specs.Bytes.{Bytes}
 use Rattle.refusal.proofs.Tests.{cases, both, clash}
-use Rattle.routine.specs.Strings.{greater, same, number}
+use Rattle.routine.specs.Strings.{greater, same, weight}
 
 -- ---- `same`
 
@@ -87,30 +87,30 @@ suc-injective {m} {n} e = omega arith
 suc-not-zero : {P : Type 0} {n : ℕ} → suc n ≡ 0 → P
 suc-not-zero {P} {n} e = absurd (omega arith)
 
-number-lt : (a : List ℕ) → Bytes a → number a < 256 ^ length a
-unfolding number
-number-lt [] h = rw pow-zero (omega arith)
-number-lt (x ∷ a) h =
+weight-lt : (a : List ℕ) → Bytes a → weight a < 256 ^ length a
+unfolding weight
+weight-lt [] h = rw pow-zero (omega arith)
+weight-lt (x ∷ a) h =
     let p : ℕ = 256 ^ length a in
     let b : x < 256 = h 0 in
     let m : x * p ≤ 255 * p = mul-le-mul-right p (omega arith) in
-    rw pow-suc (omega (arith, number-lt a (λ i. h (suc i))))
+    rw pow-suc (omega (arith, weight-lt a (λ i. h (suc i))))
 
-pub number-greater : (a b : List ℕ) → length a ≡ length b → Bytes a → Bytes b → greater a b ≡ true → number b < number a
-unfolding number
-number-greater [] b e ha hb p = none-greater b p
-number-greater (x ∷ a) [] e ha hb p = suc-not-zero e
-number-greater (x ∷ a) (y ∷ b) e ha hb p =
+pub weight-greater : (a b : List ℕ) → length a ≡ length b → Bytes a → Bytes b → greater a b ≡ true → weight b < weight a
+unfolding weight
+weight-greater [] b e ha hb p = none-greater b p
+weight-greater (x ∷ a) [] e ha hb p = suc-not-zero e
+weight-greater (x ∷ a) (y ∷ b) e ha hb p =
     let e′ : length a ≡ length b = suc-injective e in
     let k : ℕ = 256 ^ length a in
     elim (head-or-tail x y a b p) [
       | inl h ↦
           let m : suc y * k ≤ x * k = mul-le-mul-right k h in
           let s : suc y * k ≡ y * k + k = suc-mul y k in
-          let n : number b < k = rw e′ (number-lt b (λ i. hb (suc i))) in
+          let n : weight b < k = rw e′ (weight-lt b (λ i. hb (suc i))) in
           rw (← e′) (omega arith)
       | inr h ↦
-          let n : number b < number a = number-greater a b e′ (λ i. ha (suc i)) (λ i. hb (suc i)) (h .1) in
+          let n : weight b < weight a = weight-greater a b e′ (λ i. ha (suc i)) (λ i. hb (suc i)) (h .1) in
           rw (← e′, h .0) (omega arith)
     ]
 
@@ -138,11 +138,11 @@ not-greater (x ∷ a) (y ∷ b) e p =
     ])
     (λ h. inl (by-head y x b a (less x y (eqb-false x y h) (λ g. clash (greater (x ∷ a) (y ∷ b)) (by-head x y a b g) p))))
 
-pub greater-number : (a b : List ℕ) → length a ≡ length b → Bytes a → Bytes b → greater a b ≡ ltb (number b) (number a)
-greater-number a b e ha hb =
+pub greater-weight : (a b : List ℕ) → length a ≡ length b → Bytes a → Bytes b → greater a b ≡ ltb (weight b) (weight a)
+greater-weight a b e ha hb =
     cases (greater a b)
-    (λ p. p ∙ sym (lt-ltb (number b) (number a) (number-greater a b e ha hb p)))
+    (λ p. p ∙ sym (lt-ltb (weight b) (weight a) (weight-greater a b e ha hb p)))
     (λ p.
-    let most : number a ≤ number b =
-    elim (not-greater a b e p) [ inl q ↦ le-of-lt (number-greater b a (sym e) hb ha q) | inr q ↦ rw q (le-refl (number b)) ] in
-    p ∙ sym (le-ltb (number b) (number a) most))
+    let most : weight a ≤ weight b =
+    elim (not-greater a b e p) [ inl q ↦ le-of-lt (weight-greater b a (sym e) hb ha q) | inr q ↦ rw q (le-refl (weight b)) ] in
+    p ∙ sym (le-ltb (weight b) (weight a) most))

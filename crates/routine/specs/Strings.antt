@@ -19,7 +19,7 @@ greater [] b = false
 greater (x ∷ a) [] = true
 greater (x ∷ a) (y ∷ b) = pick (eqb x y) (greater a b) (ltb y x)
 
--- the number that a string of bytes stands for, the first byte heaviest
-unfoldable pub number : List ℕ → ℕ
-number [] = 0
-number (x ∷ a) = x * 256 ^ length a + number a
+-- what a string of bytes weighs: the number that it stands for, the first byte heaviest
+unfoldable pub weight : List ℕ → ℕ
+weight [] = 0
+weight (x ∷ a) = x * 256 ^ length a + weight a

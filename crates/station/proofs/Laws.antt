@@ -20,8 +20,8 @@ use Rattle.routine.proofs.Order.{same-equal, equal-same}
 use Rattle.station.specs.declared.Verdict.{Verdict}
 use Rattle.station.specs.declared.Verdict.the-variants.{Yes, No, Refused}
 use Rattle.station.specs.Lengths.{Lengths}
-use Rattle.station.specs.Promises.{notOf, tokenUnfit, checkUnfit, row, ChecksReply}
-use Rattle.station.specs.Settled.{verdict-settled}
+use Rattle.station.specs.Promises.{notOf, tokenUnfit, checkUnfit, verdictRow, ChecksReply}
+use Rattle.station.specs.Settled.{verdict-row-settled}
 
 -- ---- lengths
 
@@ -69,17 +69,17 @@ module _ (k challenge given region : List ℕ) where
 abbrev says : Bool → Bool → List ℕ
 says t s = told (pick t (refusedAt lengthOrTotal 0) call.Done) (pick s (1 ∷ 0 ∷ []) (0 ∷ 1 ∷ []))
 
-told-yes : (t s : Bool) → row Yes ≡ says t s → (t ≡ false) × (s ≡ true)
+told-yes : (t s : Bool) → verdictRow Yes ≡ says t s → (t ≡ false) × (s ≡ true)
 told-yes true s e = absurd (let z : _≡_ {A = ℕ} 0 12 = cc in omega arith)
 told-yes false true e = (refl, refl)
 told-yes false false e = absurd (let z : _≡_ {A = ℕ} 1 0 = cc in omega arith)
 
-told-no : (t s : Bool) → row No ≡ says t s → (t ≡ false) × (s ≡ false)
+told-no : (t s : Bool) → verdictRow No ≡ says t s → (t ≡ false) × (s ≡ false)
 told-no true s e = absurd (let z : _≡_ {A = ℕ} 0 12 = cc in omega arith)
 told-no false true e = absurd (let z : _≡_ {A = ℕ} 0 1 = cc in omega arith)
 told-no false false e = (refl, refl)
 
-told-refused : (t s : Bool) (r : Refusal) → row (Refused r) ≡ says t s → t ≡ true
+told-refused : (t s : Bool) (r : Refusal) → verdictRow (Refused r) ≡ says t s → t ≡ true
 told-refused true s r e = refl
 told-refused false true r e = absurd (let z : _≡_ {A = ℕ} 0 1 = cc in omega arith)
 told-refused false false r e = absurd (let z : _≡_ {A = ℕ} 0 1 = cc in omega arith)
@@ -93,7 +93,7 @@ module _ {k challenge given region : List ℕ} where
   pub says-yes : (v : Verdict) → ChecksReply k challenge given region v
       → Lengths k challenge given region → given ≡ reply k challenge region → v ≡ Yes
   says-yes v p f e =
-      verdict-settled v Yes
+      verdict-row-settled v Yes
       (p .answered ∙ simp (lengths-fit k challenge given region f, equal-same given (reply k challenge region) e))
 
   pub said-no : ChecksReply k challenge given region No → Lengths k challenge given region × (given ≢ reply k challenge region)
@@ -107,11 +107,11 @@ module _ {k challenge given region : List ℕ} where
       → Lengths k challenge given region → given ≢ reply k challenge region → v ≡ No
   says-no v p f n =
       let s = untrue (same given (reply k challenge region)) (λ e. n (same-equal given (reply k challenge region) e)) in
-      verdict-settled v No (p .answered ∙ simp (lengths-fit k challenge given region f, s))
+      verdict-row-settled v No (p .answered ∙ simp (lengths-fit k challenge given region f, s))
 
   pub said-refused : (r : Refusal) → ChecksReply k challenge given region (Refused r) → checkUnfit k challenge given region ≡ true
   said-refused r p = told-refused (checkUnfit k challenge given region) (same given (reply k challenge region)) r (p .answered)
 
   pub says-refused : (v : Verdict) → ChecksReply k challenge given region v → checkUnfit k challenge given region ≡ true
       → v ≡ Refused (record { number = lengthOrTotal; place = 0 })
-  says-refused v p e = verdict-settled v (Refused (record { number = lengthOrTotal; place = 0 })) (p .answered ∙ simp e)
+  says-refused v p e = verdict-row-settled v (Refused (record { number = lengthOrTotal; place = 0 })) (p .answered ∙ simp e)

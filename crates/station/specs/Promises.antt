@@ -36,10 +36,10 @@ checkUnfit k challenge given region =
 -- ---- answers
 
 -- the row of a verdict: 0, then 1 0 for yes and 0 1 for no; or the refusal's number and place
-abbrev pub row : Verdict → List ℕ
-row Yes = 0 ∷ 1 ∷ 0 ∷ []
-row No = 0 ∷ 0 ∷ 1 ∷ []
-row (Refused r) = A.row (call.Refused r)
+abbrev pub verdictRow : Verdict → List ℕ
+verdictRow Yes = 0 ∷ 1 ∷ 0 ∷ []
+verdictRow No = 0 ∷ 0 ∷ 1 ∷ []
+verdictRow (Refused r) = A.row (call.Refused r)
 
 -- ---- the calls
 
@@ -53,5 +53,5 @@ checkCheck k challenge given region = pick (checkUnfit k challenge given region)
 
 pub record ChecksReply (k challenge given region : List ℕ) (r : Verdict) : Type 0 where
   pub answered :
-      row r
+      verdictRow r
       ≡ told (checkCheck k challenge given region) (pick (same given (reply k challenge region)) (1 ∷ 0 ∷ []) (0 ∷ 1 ∷ []))

@@ -11,7 +11,7 @@ import page
 import runfile
 from call import ATTEST, CHECK, FILE, FINISH, HASH, LAYOUT, LENT_FINISH, LENT_TAKE_IN, MAC, MOST, NEXT, PLACE, STATE, STEP
 from call import TAKE_IN, TOKEN, TRACE
-from board import Totals
+from board import DMA, DMA_WRITES, Layout, Step, Totals
 from calls import Made
 from made_calls import stdin
 from made_memories import regions_of
@@ -52,9 +52,26 @@ def length_met(name: str, given: bytes, right: int) -> Iterator[str]:
 # ---- Steps, traces and files
 
 
+def lawful(regions: Layout, step: Step, flags: int) -> Iterator[str]:
+    """What the page says is no ground for a reset by itself."""
+    if step.pc in regions.kr or step.pc in regions.xs:
+        yield "a fetch in KR or XS"
+    if flags & (DMA | DMA_WRITES) == DMA_WRITES:
+        yield "bit 4 alone"
+        if any(step.dma_address in region for region in (regions.kr, regions.xs, regions.ctr)):
+            yield "bit 4 alone in KR, XS or CTR"
+    if step.cpu_reads and step.cpu_writes:
+        yield "a read with a write"
+    if step.cpu_writes and (step.cpu_address in regions.kr or step.cpu_address in regions.cr):
+        yield "a store of the CPU to ROM"
+    if step.dma_writes and step.dma_address in regions.cr:
+        yield "a store of the DMA to ROM"
+
+
 def steps_met(layout: bytes, trace: bytes, room: bytes, last: Optional[int]) -> Iterator[str]:
     """Causes, exposures, and visits of CR: whole ones, and ones that go wrong. Without a last PC the monitor is held."""
-    cr, within = regions_of(layout).cr, False
+    regions, within = regions_of(layout), False
+    cr = regions.cr
     for i in range(0, len(trace), 12):
         step, (cause, exposed) = board.decode(trace[i : i + 12]), room[i // 3 : i // 3 + 2]
         inside, was_inside = step.pc in cr, last is not None and last in cr
@@ -62,6 +79,9 @@ def steps_met(layout: bytes, trace: bytes, room: bytes, last: Optional[int]) -> 
         yield f"exposed {exposed}"
         if cause == 0 and step.cpu_writes and step.dma_active and step.cpu_address == step.dma_address:
             yield "two stores at one address" if step.dma_writes else "a DMA read at the CPU's store"
+        yield from (f"{what} that passes" for what in lawful(regions, step, trace[i + 6]) if not cause)
+        if last is None and step.pc == 0:
+            yield f"held with PC 0 and cause {cause}"
         if inside and not was_inside:
             within = cause == 0
         if within and cause:
@@ -111,6 +131,8 @@ def judging_met(done: Made, kind: str) -> Iterator[str]:
         yield f"{kind} of whole visits and no reset"
     if done.number != STEP and steps[:1] == ["cause 15"]:
         yield f"{kind} from away from address 0"
+    if not trace:
+        yield f"{kind} of no step"
     if len(trace) == 12 * board.MOST_STEPS:
         yield f"{kind} of {board.MOST_STEPS} steps"
     if len(room) > len(trace) // 3:
@@ -236,6 +258,11 @@ def least_of_judging() -> Iterator[tuple[str, int]]:
     yield from ((f"exposed {exposed} by call {TRACE}", 20) for exposed in range(4))
     yield from ((f"exposed {exposed} by call {FILE}", 5) for exposed in (0, 1, 3))
     yield from ((f"{what} by call {TRACE}", 5) for what in ("two stores at one address", "a DMA read at the CPU's store"))
+    passing = ("a fetch in KR or XS", "bit 4 alone in KR, XS or CTR", "a read with a write")
+    passing += ("a store of the CPU to ROM", "a store of the DMA to ROM")
+    yield from ((f"{what} that passes by call {TRACE}", 100) for what in passing)
+    yield from ((f"held with PC 0 and cause {cause} by call {TRACE}", 20) for cause in (0, 1, 5, 7, 8, 10))
+    yield f"steps by call {TRACE} of no step", 1
     yield f"a whole visit by call {TRACE}", 200
     yield from ((f"a visit that ends by cause {cause} by call {TRACE}", 5) for cause in (2, 4, 6, 9))
     yield f"steps by call {TRACE} of whole visits and no reset", 3

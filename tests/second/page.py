@@ -84,6 +84,21 @@ UNMARKED = (
     Marked(0xA0FF, step_bytes(0xA000, cpu=0x07FF, dma=0x6A00, flags=WRITES | DMA), 7),
     Marked(0xC000, step_bytes(0xA000, dma=0xE000, flags=DMA), 9),
     Marked(0xC000, step_bytes(0xC002, dma=0x07FF, flags=DMA), 8),
+    # Held with PC 0: the other rules that are tried.
+    Marked(None, step_bytes(0, cpu=0x0400, flags=WRITES), 5),
+    Marked(None, step_bytes(0, dma=0x6A00, flags=DMA), 7),
+    Marked(None, step_bytes(0, dma=0x07FF, flags=DMA | DMA_WRITES), 8),
+    # A fetch is no data read.
+    Marked(0xC000, step_bytes(0x6A00), 0),
+    Marked(0xC000, step_bytes(0x07FF), 0),
+    # Bit 4 without bit 3: in KR, in XS, in CTR, and beside code in CR.
+    Marked(0xC000, step_bytes(0xC002, dma=0x6A00, flags=DMA_WRITES), 0),
+    Marked(0xC000, step_bytes(0xC002, dma=0x0400, flags=DMA_WRITES), 0),
+    Marked(0xC000, step_bytes(0xC002, dma=0x0310, flags=DMA_WRITES), 0),
+    Marked(0xA000, step_bytes(0xA001, dma=0xE000, flags=DMA_WRITES), 0),
+    # A store to ROM from outside CR is no reset.
+    Marked(0xC000, step_bytes(0xC002, cpu=0x6A3F, flags=WRITES), 0),
+    Marked(0xC000, step_bytes(0xC002, cpu=0xA0FF, dma=0xA000, flags=WRITES | DMA | DMA_WRITES), 0),
 )
 
 

@@ -23,10 +23,11 @@ use Rattle.rules.specs.Rules.{rule15, broken, numbered, cause, next}
 use Rattle.rules.proofs.Laws.{held-away, quiet-passes, cause-lowest}
 use Rattle.monitor.specs.declared.Totals.{Totals}
 use Rattle.monitor.specs.declared.Traced.the-variants as traced
-use Rattle.monitor.specs.Effects.{answer, bytes}
+use Rattle.effects.specs.Effects.{answer, bytes}
 use Rattle.monitor.specs.Runs.{answerSize, count, steps, begin, before, resetting, roomAfter, totals}
 use Rattle.monitor.specs.Promises.{traceCheck, stepCheck, Traces}
-use Rattle.monitor.proofs.Laws.{answer-cause, answer-at}
+use Rattle.effects.proofs.Laws.{answer-cause}
+use Rattle.monitor.proofs.Laws.{answer-at}
 use Rattle.monitor.proofs.Checks.{traced-judged, stepped-judged}
 use Rattle.demands.specs.Demand2 as claim
 use Rattle.demands.specs.Demand2.{Decides, Decided, monitorBefore, causesIn}

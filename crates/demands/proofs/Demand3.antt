@@ -13,7 +13,7 @@ use Rattle.layout.specs.Regions.{within}
 use Rattle.rules.specs.declared.Step.{Step}
 use Rattle.rules.specs.declared.Monitor.{Monitor}
 use Rattle.rules.specs.Rules.{cpuWrites, cause, resets, start, next}
-use Rattle.monitor.specs.Effects.{cpuExposed, dmaExposed, exposing, answer, stored, storing, written}
+use Rattle.effects.specs.Effects.{cpuExposed, dmaExposed, exposing, answer, stored, storing, written}
 use Rattle.monitor.specs.Runs.{State, before, said, answers, resetting}
 use Rattle.demands.specs.Demand3.{Agree, scratch, with, blank, SameSteps, Unseen, Demand3Runs, FromAny}
 use Rattle.demands.proofs.Exposed.{cpu-outside, dma-outside}

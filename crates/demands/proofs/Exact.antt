@@ -12,8 +12,8 @@ use Rattle.refusal.proofs.Tests.{cases}
 use Rattle.layout.specs.declared.Layout.{Layout}
 use Rattle.layout.specs.Regions.{within, outside}
 use Rattle.rules.specs.Rules.{cause, start}
-use Rattle.monitor.specs.declared.StepAnswer.{StepAnswer}
-use Rattle.monitor.specs.Effects.{exposing, answer}
+use Rattle.effects.specs.declared.StepAnswer.{StepAnswer}
+use Rattle.effects.specs.Effects.{exposing, answer}
 use Rattle.demands.specs.Demand3.{look, Demand3Exact}
 
 module _ (l : Layout) (k : ℕ) (kr : outside (l .kr) k ≡ true) (xs : outside (l .xs) k ≡ true) where

@@ -9,7 +9,7 @@ use Rattle.rules.specs.declared.Step.{Step}
 use Rattle.rules.specs.declared.Monitor.{Monitor}
 use Rattle.rules.specs.Rules.{cpuReads, cpuWrites, cause}
 use Rattle.rules.proofs.Laws.{quiet}
-use Rattle.monitor.specs.Effects.{cpuExposed, dmaExposed}
+use Rattle.effects.specs.Effects.{cpuExposed, dmaExposed}
 
 -- of tests: what is on is not inside
 on-outside : (on inside : Bool) → on ≡ true → (on && inside) ≡ false → not inside ≡ true

@@ -22,7 +22,7 @@ use Rattle.layout.specs.Good.{Good}
 use Rattle.layout.proofs.Laws.{good-done}
 use Rattle.layout.proofs.Placed.{Placed, placed}
 use Rattle.rules.specs.declared.Step.{Step}
-use Rattle.monitor.specs.Effects.{written}
+use Rattle.effects.specs.Effects.{written}
 use Rattle.monitor.specs.Runs.{State, count, steps, begin, before, memoryAfter}
 use Rattle.monitor.specs.Promises.{traceCheck, stepCheck}
 use Rattle.routine.specs.Strings.{greater}

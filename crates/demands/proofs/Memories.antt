@@ -9,7 +9,7 @@ use lib.Seq.{getD-set-other}
 use Rattle.refusal.specs.Choice.{pick}
 use Rattle.layout.specs.declared.Layout.{Layout}
 use Rattle.layout.specs.Regions.{within, outside}
-use Rattle.monitor.specs.Effects.{lands, stored}
+use Rattle.effects.specs.Effects.{lands, stored}
 use Rattle.demands.specs.Demand3.{Agree}
 
 pub pick-agree : (l : Layout) (t : Bool) {x y x′ y′ : List ℕ} → Agree l x y → Agree l x′ y′ → Agree l (pick t x x′) (pick t y y′)

@@ -8,7 +8,7 @@ use Rattle.refusal.specs.Choice.{pick}
 use Rattle.layout.specs.declared.Layout.{Layout}
 use Rattle.rules.specs.declared.Step.{Step}
 use Rattle.rules.specs.Rules.{resets}
-use Rattle.monitor.specs.Effects.{bytes}
+use Rattle.effects.specs.Effects.{bytes}
 use Rattle.monitor.specs.Runs.{State, before, said, answers, resetting}
 use Rattle.monitor.proofs.Runs.{same-next, same-said, same-resets, alike}
 use Rattle.demands.specs.Traces.{InParts}

@@ -26,7 +26,7 @@ use Rattle.rules.specs.declared.Step.{Step}
 use Rattle.rules.specs.declared.Monitor.{Monitor}
 use Rattle.rules.specs.Steps.{bit, stepOf, clean}
 use Rattle.rules.specs.Rules.{cause, start, next}
-use Rattle.monitor.specs.Effects.{stored, storing, written}
+use Rattle.effects.specs.Effects.{stored, storing, written}
 use Rattle.monitor.specs.declared.Traced.{Traced}
 use Rattle.monitor.specs.declared.Traced.the-variants as traced
 use Rattle.monitor.specs.Runs.{State, stepSize, answerSize, count, stepBytes, steps, begin, before, resetting}

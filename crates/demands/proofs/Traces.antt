@@ -28,10 +28,11 @@ use Rattle.monitor.specs.declared.Stepped.{Stepped}
 use Rattle.monitor.specs.declared.Stepped.the-variants as stepped
 use Rattle.monitor.specs.declared.Totals.{Totals}
 use Rattle.monitor.specs.declared.Traced.the-variants as traced
-use Rattle.monitor.specs.Effects.{cpuExposed, dmaExposed, exposing, answer, bytes, lands, written}
+use Rattle.effects.specs.Effects.{cpuExposed, dmaExposed, exposing, answer, bytes, lands, written}
 use Rattle.monitor.specs.Runs.{State, stepSize, answerSize, count, stepBytes, steps, begin, before, said, resetting, totals}
 use Rattle.monitor.specs.Settled.{stepped-row-settled}
-use Rattle.monitor.proofs.Laws.{length-before, written-byte, answer-at}
+use Rattle.effects.proofs.Laws.{written-byte}
+use Rattle.monitor.proofs.Laws.{length-before, answer-at}
 use Rattle.monitor.proofs.Checks.{traced-judged, Fitting, trace-passed, one-step, one-passes}
 use Rattle.monitor.specs.Promises.{traceCheck, stepCheck, Traces}
 use Rattle.demands.specs.Traces as claim

@@ -23,7 +23,7 @@ use Rattle.rules.specs.declared.Step.{Step}
 use Rattle.rules.specs.declared.Monitor.{Monitor}
 use Rattle.rules.specs.Rules.{cause, next}
 use Rattle.rules.proofs.Laws.{unbroken-passes}
-use Rattle.monitor.specs.Effects.{stored, storing, written}
+use Rattle.effects.specs.Effects.{stored, storing, written}
 use Rattle.monitor.specs.Runs.{State, before}
 use Rattle.board.specs.Memory.{challenge, replyAt}
 use Rattle.board.specs.Attestation.{due, accepted}

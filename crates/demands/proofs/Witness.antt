@@ -14,7 +14,7 @@ use Rattle.layout.specs.Layouts.{layoutOf, layoutCheck}
 use Rattle.layout.specs.Calls.{callCheck}
 use Rattle.rules.specs.Steps.{stepOf}
 use Rattle.rules.specs.Rules.{cause, next}
-use Rattle.monitor.specs.Effects.{exposing, answer, stored, storing, written}
+use Rattle.effects.specs.Effects.{exposing, answer, stored, storing, written}
 use Rattle.monitor.specs.Runs.{begin, steps, before, answers, resetting}
 use Rattle.monitor.specs.Promises.{traceCheck}
 use Rattle.demands.specs.Demand3.{Agree, SameTrace}

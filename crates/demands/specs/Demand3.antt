@@ -15,7 +15,7 @@ use Rattle.rules.specs.declared.Monitor.{Monitor}
 use Rattle.rules.specs.Rules.{cpuWrites, cause, start}
 use Rattle.monitor.specs.declared.Stepped.{Stepped}
 use Rattle.monitor.specs.declared.Traced.{Traced}
-use Rattle.monitor.specs.Effects.{answer}
+use Rattle.effects.specs.Effects.{answer}
 use Rattle.monitor.specs.Runs.{stepSize, steps, State, begin, before, said, answers, resetting}
 use Rattle.monitor.specs.Promises.{Steps, Traces}
 

@@ -16,7 +16,7 @@ use Rattle.monitor.specs.declared.Stepped.{Stepped}
 use Rattle.monitor.specs.declared.Stepped.the-variants as stepped
 use Rattle.monitor.specs.declared.Traced.the-variants as traced
 use Rattle.monitor.specs.declared.Totals.{Totals}
-use Rattle.monitor.specs.Effects.{bytes}
+use Rattle.effects.specs.Effects.{bytes}
 use Rattle.monitor.specs.Runs.{State, stepSize, answerSize, count, stepBytes, steps, before, said, answers, resetting}
 use Rattle.monitor.specs.Promises.{Steps, Traces}
 

@@ -9,7 +9,7 @@ use Rattle.refusal.specs.declared.Answer.the-variants as call
 use Rattle.layout.specs.Layouts.{layoutOf, layoutCheck}
 use Rattle.rules.specs.Steps.{stepOf}
 use Rattle.rules.specs.Rules.{cause, next}
-use Rattle.monitor.specs.Effects.{exposing, answer, stored, storing, written}
+use Rattle.effects.specs.Effects.{exposing, answer, stored, storing, written}
 use Rattle.monitor.specs.Runs.{begin, steps, before, said, resetting}
 use Rattle.monitor.specs.Promises.{traceCheck}
 use Rattle.runfile.specs.Contents.{begins, entryFails, firstFailing, fileCheck, body}

@@ -20,7 +20,7 @@ use Rattle.rules.specs.Rules.{next}
 use Rattle.monitor.specs.declared.Totals.{Totals}
 use Rattle.monitor.specs.declared.Stepped.the-variants as stepped
 use Rattle.monitor.specs.declared.Traced.the-variants as traced
-use Rattle.monitor.specs.Effects.{bytes, written, answer}
+use Rattle.effects.specs.Effects.{bytes, written, answer}
 use Rattle.monitor.specs.Runs.{count, steps, memoryAfter, roomAfter, totals}
 use Rattle.monitor.specs.Promises.{traceCheck, stepCheck, runCheck, Traces, Steps, Runs}
 use Rattle.monitor.proofs.Checks.{trace-passed, step-passed}
@@ -33,19 +33,18 @@ admitted memory layout rest check r q e a f =
 
 module _ (memory layout b room : List ℕ) (l : Layout) where
   pub trace-admitted : Admits memory layout (traceCheck b (length room)) (checked.Good l)
-      → (length memory ≡ 65536) × (4 * count b ≤ length room)
+      → 4 * count b ≤ length room
   trace-admitted e =
       let g = admitted-good memory layout (traceCheck b (length room)) l e in
       let p = call-passed memory layout (traceCheck b (length room)) (g .0) in
-      (p .0, trace-passed b (length room) (p .2) .roomy)
+      trace-passed b (length room) (p .2) .roomy
 
   pub step-admitted : Admits memory layout (stepCheck b (length room)) (checked.Good l)
-      → (length memory ≡ 65536) × (length b ≡ 12) × (4 ≤ length room)
+      → (length b ≡ 12) × (4 ≤ length room)
   step-admitted e =
       let g = admitted-good memory layout (stepCheck b (length room)) l e in
       let p = call-passed memory layout (stepCheck b (length room)) (g .0) in
-      let q = step-passed b (length room) (p .2) in
-      (p .0, q .0, q .1)
+      step-passed b (length room) (p .2)
 
 module _ (memory layout b room memory′ room′ : List ℕ) where
   pub judged : (l : Layout) (r : Totals) → Admits memory layout (traceCheck b (length room)) (checked.Good l)

@@ -1,5 +1,4 @@
 pub mod Lists
-pub mod Quiet
 pub mod Laws
 pub mod Checks
 pub mod Turns

@@ -13,12 +13,14 @@ use Rattle.layout.specs.declared.Layout.{Layout}
 use Rattle.rules.specs.declared.Step.{Step}
 use Rattle.rules.specs.declared.Monitor.{Monitor}
 use Rattle.rules.specs.Rules.{cause, resets, start, next}
-use Rattle.monitor.specs.declared.StepAnswer.{StepAnswer}
+use Rattle.effects.specs.declared.StepAnswer.{StepAnswer}
 use Rattle.monitor.specs.declared.Totals.{Totals}
-use Rattle.monitor.specs.declared.Judged.{Judged}
-use Rattle.monitor.specs.Effects.{answer, bytes, written}
+use Rattle.effects.specs.declared.Judged.{Judged}
+use Rattle.effects.specs.Effects.{answer, bytes, written}
+use Rattle.effects.specs.Promises.{Acts}
+use Rattle.effects.proofs.Laws.{answer-cause}
 use Rattle.monitor.specs.Runs.{count, steps, begin, before, said, answers, resetting, memoryAfter, roomAfter, totals}
-use Rattle.monitor.proofs.Laws.{answer-cause, length-answers}
+use Rattle.monitor.proofs.Laws.{length-answers}
 
 pub record After (l : Layout) (b memory₀ room₀ : List ℕ) (i : ℕ) (memory room : List ℕ) (m : Monitor) (r : ℕ) : Type 0 where
   pub remembered : m ≡ before l (steps b) (begin memory₀) i .monitor
@@ -44,13 +46,13 @@ grown a room₀ v i e =
 module _ (l : Layout) (b memory₀ room₀ : List ℕ) (i : ℕ) (memory room : List ℕ) (m : Monitor) (r : ℕ)
     (d : After l b memory₀ room₀ i memory room m r)
     (s : Step) (es : s ≡ steps b i) (j : Judged) (memory′ : List ℕ)
-    (answered : j .answer ≡ answer l m s memory) (moved : j .monitor ≡ next l m s) (stored : memory′ ≡ written l m s memory) where
+    (a : Acts l m s memory memory′ j) where
   same-said : j .answer ≡ said l (steps b) (begin memory₀) i
   same-said = cc
 
   same-cause : j .answer .cause ≡ cause l (before l (steps b) (begin memory₀) i .monitor) (steps b i)
   same-cause =
-      ap (λ (a : StepAnswer). a .cause) same-said
+      ap (λ (x : StepAnswer). x .cause) same-said
       ∙ answer-cause l (before l (steps b) (begin memory₀) i .monitor) (steps b i) (before l (steps b) (begin memory₀) i .memory)
 
   more-remembered : j .monitor ≡ before l (steps b) (begin memory₀) (suc i) .monitor
@@ -74,7 +76,7 @@ module _ (l : Layout) (b memory₀ room₀ : List ℕ) (i : ℕ) (memory room : 
             er
             ∙ ap (λ (o : List ℕ). take (4 * i) o ++ bytes (j .answer) ++ drop (4 * i + 4) o) (d .answered)
             ∙ grown (answers l (steps b) (begin memory₀) i) room₀ (bytes (j .answer)) i (length-answers l (steps b) (begin memory₀) i)
-            ∙ ap (λ (a : StepAnswer). answers l (steps b) (begin memory₀) i ++ bytes a ++ drop (4 * suc i) room₀) same-said;
+            ∙ ap (λ (x : StepAnswer). answers l (steps b) (begin memory₀) i ++ bytes x ++ drop (4 * suc i) room₀) same-said;
         counted =
             ap (λ (q : ℕ). q + k) (d .counted)
             ∙ ap (λ (q : ℕ). resetting l (steps b) (begin memory₀) i + q) (ek ∙ ap (λ (q : ℕ). pick (not (eqb q 0)) 1 0) same-cause);
@@ -98,13 +100,12 @@ whole l b memory₀ room₀ i memory room m r n d en ei =
 
 -- one step alone
 pub one : (l : Layout) (m : Monitor) (b memory memory′ room room′ : List ℕ) (s : Step) → s ≡ steps b 0
-    → (j : Judged) → j .answer ≡ answer l m s memory → j .monitor ≡ next l m s → memory′ ≡ written l m s memory
-    → room′ ≡ bytes (j .answer) ++ drop 4 room
+    → (j : Judged) → Acts l m s memory memory′ j → room′ ≡ bytes (j .answer) ++ drop 4 room
     → (j .monitor ≡ next l m (steps b 0))
     × (memory′ ≡ written l m (steps b 0) memory)
     × (room′ ≡ bytes (answer l m (steps b 0) memory) ++ drop 4 room)
-one l m b memory memory′ room room′ s e j answered moved stored placed = (
-  moved ∙ ap (next l m) e,
-  stored ∙ ap (λ (u : Step). written l m u memory) e,
-  placed ∙ ap (λ (a : StepAnswer). bytes a ++ drop 4 room) (answered ∙ ap (λ (u : Step). answer l m u memory) e),
+one l m b memory memory′ room room′ s e j a placed = (
+  a .remembered ∙ ap (next l m) e,
+  a .memory-left ∙ ap (λ (u : Step). written l m u memory) e,
+  placed ∙ ap (λ (x : StepAnswer). bytes x ++ drop 4 room) (a .answered ∙ ap (λ (u : Step). answer l m u memory) e),
 )

@@ -1,4 +1,3 @@
-pub mod Effects
 pub mod Runs
 pub mod Promises
 pub mod Settled

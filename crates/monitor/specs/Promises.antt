@@ -23,7 +23,7 @@ use Rattle.monitor.specs.declared.Stepped.{Stepped}
 use Rattle.monitor.specs.declared.Stepped.the-variants as stepped
 use Rattle.monitor.specs.declared.Traced.{Traced}
 use Rattle.monitor.specs.declared.Traced.the-variants as traced
-use Rattle.monitor.specs.Effects.{bytes, written, answer}
+use Rattle.effects.specs.Effects.{bytes, written, answer}
 use Rattle.monitor.specs.Runs.{stepSize, answerSize, count, stepBytes, steps, memoryAfter, roomAfter, totals}
 
 -- ---- refusals

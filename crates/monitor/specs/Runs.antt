@@ -8,9 +8,9 @@ use Rattle.rules.specs.declared.Step.{Step}
 use Rattle.rules.specs.declared.Monitor.{Monitor}
 use Rattle.rules.specs.Steps.{stepOf}
 use Rattle.rules.specs.Rules.{resets, start, next}
-use Rattle.monitor.specs.declared.StepAnswer.{StepAnswer}
+use Rattle.effects.specs.declared.StepAnswer.{StepAnswer}
 use Rattle.monitor.specs.declared.Totals.{Totals}
-use Rattle.monitor.specs.Effects.{answer, bytes, written}
+use Rattle.effects.specs.Effects.{answer, bytes, written}
 
 -- bytes of a step, and of its answer
 abbrev pub stepSize : ℕ

@@ -1,29 +1,20 @@
 // The monitor on lent memory: one step from whatever it remembers, and a trace from its start.
+use effects::StepAnswer;
 use layout::Checked;
 use layout::Layout;
 use refusal::Answer;
 use refusal::Refusal;
 use rules::Monitor;
-use rules::Step;
 ghost use mathlib.Core.Path.{_≡_};
 ghost use mathlib.Core.List.{_++_};
 ghost use Prim.Native.Nat.{_+_, _*_, _/_, _≤_, _<_};
-ghost use lib.ListN.{length, getD, take, drop};
+ghost use lib.ListN.{length, take, drop};
 ghost use Rattle.refusal.specs.Choice.{pick};
 ghost use Rattle.refusal.specs.Answers.{row};
-ghost use Rattle.layout.specs.Calls.{memoryBytes};
 ghost use Rattle.rules.specs.Rules.{next};
-ghost use Rattle.monitor.specs.Effects as E;
+ghost use Rattle.effects.specs.Effects as E;
 ghost use Rattle.monitor.specs.Runs as R;
 ghost use Rattle.monitor.specs.Promises as P;
-
-// The four answer bytes of a step; bit 0 of `exposed` stands for the CPU's byte, bit 1 for the DMA's.
-pub struct StepAnswer {
-    pub cause: u8,
-    pub exposed: u8,
-    pub cpu: u8,
-    pub dma: u8,
-}
 
 pub struct Totals {
     pub steps: usize,
@@ -40,118 +31,12 @@ pub enum Traced {
     Refused(Refusal),
 }
 
-// What one step leaves beside the memory.
-struct Judged {
-    answer: StepAnswer,
-    monitor: Monitor,
-}
-
 // The bytes of a step and of its answer, and the most steps of a trace.
 pub const STEP: usize = 12;
 
 pub const ANSWER: usize = 4;
 
 pub const MOST_STEPS: usize = 4096;
-
-// The byte at an address, or 0 where it is not exposed.
-fn peek(on: bool, a: u16, memory: &[u8]) -> u8
-    requires { ⌜ length (now memory) ≡ memoryBytes ⌝ }
-    ensures { λ r. ⌜ r ≡ pick on (getD (now (memory .entry)) a 0) 0 ⌝ }
-{
-    let at = a as usize;
-    if on { memory[at] } else { 0 }
-}
-
-// A store, which has no effect in CR and KR.
-fn put(l: Layout, on: bool, a: u16, v: u8, memory: &mut [u8])
-    requires { ⌜ length (now memory) ≡ memoryBytes ⌝ }
-    ensures { λ r. ⌜ now (memory .exit) ≡ E.stored l on a v (now (memory .entry)) ⌝ }
-{
-    if !on {
-        return;
-    }
-    let at = a as usize;
-    if !l.cr.holds(a) & !l.kr.holds(a) {
-        memory[at] = v;
-    }
-}
-
-// The exposure bits.
-fn exposure(cpu: bool, dma: bool) -> u8
-    ensures { λ r. ⌜ r ≡ pick cpu 1 0 + pick dma 2 0 ⌝ }
-{
-    if cpu {
-        if dma { 3 } else { 1 }
-    } else {
-        if dma { 2 } else { 0 }
-    }
-}
-
-// Both reads, and then the stores.
-fn access(l: Layout, s: Step, memory: &mut [u8]) -> StepAnswer
-    requires { ⌜ length (now memory) ≡ memoryBytes ⌝ }
-    ensures { λ r. ⌜ (r ≡ E.exposing l s (now (memory .entry)))
-        × (now (memory .exit) ≡ E.storing l s (now (memory .entry))) ⌝ }
-{
-    let cpu_seen = s.reads & !l.cr.holds(s.pc);
-    let dma_seen = s.active & !s.stores;
-    let cpu_stores = s.writes;
-    let dma_stores = s.active & s.stores;
-    let exposed = exposure(cpu_seen, dma_seen);
-    let cpu = peek(cpu_seen, s.cpu, memory);
-    let dma = peek(dma_seen, s.dma, memory);
-    put(l, cpu_stores, s.cpu, s.cpudata, memory);
-    put(l, dma_stores, s.dma, s.dmadata, memory);
-    StepAnswer {
-        cause: 0,
-        exposed,
-        cpu,
-        dma,
-    }
-}
-
-// A step that does not reset. With PC in CR and the DMA at rest nothing is handed out, so that only the CPU's store is left.
-fn act(l: Layout, s: Step, memory: &mut [u8]) -> StepAnswer
-    requires { ⌜ length (now memory) ≡ memoryBytes ⌝ }
-    ensures { λ r. ⌜ (r ≡ E.exposing l s (now (memory .entry)))
-        × (now (memory .exit) ≡ E.storing l s (now (memory .entry))) ⌝ }
-{
-    if l.cr.holds(s.pc) & !s.active {
-        put(l, s.writes, s.cpu, s.cpudata, memory);
-        return StepAnswer {
-            cause: 0,
-            exposed: 0,
-            cpu: 0,
-            dma: 0,
-        };
-    }
-    access(l, s, memory)
-}
-
-// One step: its answer, what the monitor then remembers, and its stores.
-fn judge(l: Layout, m: Monitor, s: Step, memory: &mut [u8]) -> Judged
-    requires { ⌜ length (now memory) ≡ memoryBytes ⌝ }
-    ensures { λ r. ⌜ (r .answer ≡ E.answer l m s (now (memory .entry)))
-        × (r .monitor ≡ next l m s)
-        × (now (memory .exit) ≡ E.written l m s (now (memory .entry))) ⌝ }
-{
-    let cause = rules::cause(l, m, s);
-    let monitor = Monitor {
-        held: cause != 0,
-        last: s.pc,
-    };
-    if cause == 0 {
-        let answer = act(l, s, memory);
-        return Judged { answer, monitor };
-    }
-    let answer = StepAnswer {
-        cause,
-        exposed: 0,
-        cpu: 0,
-        dma: 0,
-    };
-    Judged { answer, monitor }
-}
 
 // The 12 bytes of a step.
 fn step_bytes(b: &[u8], n: usize) -> [u8; 12]
@@ -219,7 +104,7 @@ fn one_if(resets: bool) -> usize
 
 // All steps of a trace, from the monitor's start.
 fn run(l: Layout, trace: &[u8], memory: &mut [u8], room: &mut [u8]) -> Totals
-    requires { ⌜ (length (now memory) ≡ memoryBytes) × (R.answerSize * R.count (now trace) ≤ length (now room)) ⌝ }
+    requires { ⌜ R.answerSize * R.count (now trace) ≤ length (now room) ⌝ }
     ensures { λ r. ⌜ (r ≡ R.totals l (now (trace .entry)) (now (memory .entry)))
         × (now (memory .exit) ≡ R.memoryAfter l (now (trace .entry)) (now (memory .entry)))
         × (now (room .exit) ≡ R.roomAfter l (now (trace .entry)) (now (memory .entry)) (now (room .entry))) ⌝ }
@@ -233,7 +118,7 @@ fn run(l: Layout, trace: &[u8], memory: &mut [u8], room: &mut [u8]) -> Totals
     let mut i: usize = 0;
     while i < steps {
         let s = rules::decode(step_bytes(trace, i));
-        let j = judge(l, m, s, memory);
+        let j = effects::judge(l, m, s, memory);
         let a = j.answer;
         put_answer(room, ANSWER * i, a);
         m = j.monitor;
@@ -314,15 +199,13 @@ pub fn trace(memory: &mut [u8], layout: &[u8], trace: &[u8], room: &mut [u8]) ->
 }
 
 fn run_step(l: Layout, step: &[u8], m: Monitor, memory: &mut [u8], room: &mut [u8]) -> Monitor
-    requires { ⌜ (length (now memory) ≡ memoryBytes)
-        × (length (now step) ≡ R.stepSize)
-        × (R.answerSize ≤ length (now room)) ⌝ }
+    requires { ⌜ (length (now step) ≡ R.stepSize) × (R.answerSize ≤ length (now room)) ⌝ }
     ensures { λ r. ⌜ (r ≡ next l m (R.steps (now (step .entry)) 0))
         × (now (memory .exit) ≡ E.written l m (R.steps (now (step .entry)) 0) (now (memory .entry)))
         × (now (room .exit) ≡ E.bytes (E.answer l m (R.steps (now (step .entry)) 0) (now (memory .entry))) ++ drop R.answerSize (now (room .entry))) ⌝ }
 {
     let s = rules::decode(step_bytes(step, 0));
-    let j = judge(l, m, s, memory);
+    let j = effects::judge(l, m, s, memory);
     let a = j.answer;
     put_answer(room, 0, a);
     j.monitor

@@ -20,9 +20,9 @@ use Rattle.layout.specs.declared.Layout.{Layout}
 use Rattle.rules.specs.declared.Step.{Step}
 use Rattle.rules.specs.declared.Monitor.{Monitor}
 use Rattle.rules.specs.Rules.{rule15, broken, numbered, cause, resets}
-use Rattle.monitor.specs.declared.StepAnswer.{StepAnswer}
+use Rattle.effects.specs.declared.StepAnswer.{StepAnswer}
 use Rattle.monitor.specs.declared.Totals.{Totals}
-use Rattle.monitor.specs.Effects.{exposing, answer}
+use Rattle.effects.specs.Effects.{exposing, answer}
 use Rattle.monitor.specs.Runs.{State, count, begin, before, steps, said, resetting}
 use Rattle.runfile.specs.Contents.{fileCheck, body}
 use Rattle.runfile.specs.Promises.{fileLayout, fileMemory, fileTrace, fileTotals, judgeCheck}

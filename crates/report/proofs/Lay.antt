@@ -7,7 +7,7 @@ use native.Mathlib.Omega.{arith}
 use lib.ListN.{length, getD, set, take, drop, length-append}
 use lib.Seq.{sets, set-out, take-suc, take-length}
 use Rattle.refusal.proofs.Laid.{sets-append}
-use Rattle.monitor.specs.declared.StepAnswer.{StepAnswer}
+use Rattle.effects.specs.declared.StepAnswer.{StepAnswer}
 use Rattle.report.specs.Text.{line, lines}
 use Rattle.report.specs.Writing.{Wrote}
 

@@ -9,7 +9,7 @@ use Rattle.refusal.specs.First.{first}
 use Rattle.refusal.specs.declared.Refusal.{Refusal}
 use Rattle.refusal.specs.declared.Answer.{Answer}
 use Rattle.refusal.specs.declared.Answer.the-variants.{Done, Refused}
-use Rattle.monitor.specs.declared.StepAnswer.{StepAnswer}
+use Rattle.effects.specs.declared.StepAnswer.{StepAnswer}
 use Rattle.monitor.specs.declared.Totals.{Totals}
 use Rattle.monitor.specs.Runs.{begin, steps, said}
 use Rattle.runfile.specs.Promises.{fileLayout, fileMemory, fileTrace, fileTotals, judgeCheck}

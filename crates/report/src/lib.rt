@@ -2,7 +2,7 @@
 //
 // Every function answers the place behind what it writes. What does not fit is counted and not stored. What the private functions ask
 // of a place only keeps sums small: all places of a text are far below.
-use monitor::StepAnswer;
+use effects::StepAnswer;
 use monitor::Totals;
 use monitor::Traced;
 use refusal::Refusal;

@@ -14,13 +14,13 @@ use Rattle.monitor.proofs.run.Tie as tie
 
 abbrev Inv-loop : tie.InvT-loop
 Inv-loop l trace memory₀ room₀ n m₀ resets₀ i₀ memory room m resets i =
-    (i ≤ n) × (n ≡ count trace) × (length memory ≡ 65536) × (length room ≡ length room₀) × (resets ≤ i) × After l trace memory₀ room₀ i memory room m resets
+    (i ≤ n) × (n ≡ count trace) × (length memory ≡ length memory₀) × (length room ≡ length room₀) × (resets ≤ i) × After l trace memory₀ room₀ i memory room m resets
 
 abbrev μ-loop : tie.MeasureT-loop
 μ-loop l trace memory₀ room₀ n m₀ resets₀ i₀ memory room m resets i = n - i
 
 loop-holds : tie.Need-loop-holds Inv-loop μ-loop
-loop-holds c = (omega arith, refl, c .before .before .before .pre .0, refl, omega arith, none _ _ _ _)
+loop-holds c = (omega arith, refl, refl, refl, omega arith, none _ _ _ _)
 
 step-bytes-requires : tie.Need-step-bytes-requires Inv-loop μ-loop
 step-bytes-requires c κs = omega arith
@@ -29,7 +29,7 @@ decode-requires : tie.Need-decode-requires Inv-loop μ-loop
 decode-requires c κs = search needs
 
 judge-requires : tie.Need-judge-requires Inv-loop μ-loop
-judge-requires c κs = omega arith
+judge-requires c κs = search needs
 
 mul-put-answer : tie.Need-mul-put-answer Inv-loop μ-loop
 mul-put-answer c = omega arith
@@ -60,7 +60,7 @@ loop-again c =
       j .kept .1 .1 .1 .0 ∙ h .inv .2,
       p .kept .0 ∙ h .inv .3,
       omega (arith, h .inv, c .one-if .ensures, one-most (not (eqb (j .result .answer .cause) 0))),
-      more _ _ _ _ _ _ _ _ _ (h .inv .5) _ (c .before .before .before .before .before .before .before .before .before .before .before .before .decode .ensures ∙ ap stepOf (c .before .before .before .before .before .before .before .before .before .before .before .before .before .step-bytes .ensures)) _ _ (j .ensures .0) (j .ensures .1) (j .ensures .2) _ (p .ensures) _ (c .one-if .ensures),
+      more _ _ _ _ _ _ _ _ _ (h .inv .5) _ (c .before .before .before .before .before .before .before .before .before .before .before .before .decode .ensures ∙ ap stepOf (c .before .before .before .before .before .before .before .before .before .before .before .before .before .step-bytes .ensures)) _ _ (j .ensures) _ (p .ensures) _ (c .one-if .ensures),
     )
 
 same-length : tie.Need-same-length Inv-loop μ-loop

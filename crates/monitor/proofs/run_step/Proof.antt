@@ -28,7 +28,7 @@ returns : tie.Need-returns
 returns c =
     let h = c .before .before .before .before .before .before .before .before .before .before .before .before .before .before .before .args in
     let j = c .before .before .before .before .before .before .before .before .judge in
-    one _ _ (h .step .now) _ _ (h .room .now) _ _ (c .before .before .before .before .before .before .before .before .before .before .decode .ensures ∙ ap stepOf (c .before .before .before .before .before .before .before .before .before .before .before .step-bytes .ensures)) _ (j .ensures .0) (j .ensures .1) (j .ensures .2) (c .before .before .before .put-answer .ensures)
+    one _ _ (h .step .now) _ _ (h .room .now) _ _ (c .before .before .before .before .before .before .before .before .before .before .decode .ensures ∙ ap stepOf (c .before .before .before .before .before .before .before .before .before .before .before .step-bytes .ensures)) _ (j .ensures) (c .before .before .before .put-answer .ensures)
 
 pub run-step-spec : {M : Type 1} → statement M
 run-step-spec =

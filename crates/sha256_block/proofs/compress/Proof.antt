@@ -1,6 +1,6 @@
 -- `sha256_block::compress` meets its contract. Assumes nothing.
-use Rattle.sha256_block.specs.Block.{compress}
 use borrow.Author.Needs.{needs}
+use Rattle.sha256_block.proofs.Parts.{compressed}
 use Rattle.sha256_block.proofs.compress.Statement.{statement}
 use Rattle.sha256_block.proofs.compress.Tie as tie
 
@@ -8,17 +8,18 @@ schedule-requires : tie.Need-schedule-requires
 schedule-requires c κs = search needs
 
 load-requires : tie.Need-load-requires
-load-requires c κs = search needs
+load-requires c κs = tt
 
 rounds-requires : tie.Need-rounds-requires
 rounds-requires c κs = search needs
 
 add-to-requires : tie.Need-add-to-requires
-add-to-requires c κs = search needs
+add-to-requires c κs = tt
 
 returns : tie.Need-returns
-unfolding compress
-returns c = cc
+returns c =
+    let h = c .before .before .before .before .before .before .args in
+    compressed (h .s) (h .m .now) _ _ _ _ (c .before .before .before .before .schedule .ensures) (c .before .before .load .ensures) (c .before .rounds .ensures) (c .add-to .ensures)
 
 pub compress-spec : {M : Type 1} → statement M
 compress-spec =

@@ -31,7 +31,7 @@ element-copy-out-round-2 : tie.Need-element-copy-out-round-2 Inv-loop μ-loop
 element-copy-out-round-2 c = search needs
 
 round-requires : tie.Need-round-requires Inv-loop μ-loop
-round-requires c κs = search needs
+round-requires c κs = tt
 
 add-round : tie.Need-add-round Inv-loop μ-loop
 add-round c = search needs
@@ -52,7 +52,7 @@ element-copy-out-round-4 : tie.Need-element-copy-out-round-4 Inv-loop μ-loop
 element-copy-out-round-4 c = search needs
 
 round-requires-2 : tie.Need-round-requires-2 Inv-loop μ-loop
-round-requires-2 c κs = search needs
+round-requires-2 c κs = tt
 
 add-round-3 : tie.Need-add-round-3 Inv-loop μ-loop
 add-round-3 c = search needs
@@ -73,7 +73,7 @@ element-copy-out-round-6 : tie.Need-element-copy-out-round-6 Inv-loop μ-loop
 element-copy-out-round-6 c = search needs
 
 round-requires-3 : tie.Need-round-requires-3 Inv-loop μ-loop
-round-requires-3 c κs = search needs
+round-requires-3 c κs = tt
 
 add-round-5 : tie.Need-add-round-5 Inv-loop μ-loop
 add-round-5 c = search needs
@@ -94,7 +94,7 @@ element-copy-out-round-8 : tie.Need-element-copy-out-round-8 Inv-loop μ-loop
 element-copy-out-round-8 c = search needs
 
 round-requires-4 : tie.Need-round-requires-4 Inv-loop μ-loop
-round-requires-4 c κs = search needs
+round-requires-4 c κs = tt
 
 add-t : tie.Need-add-t Inv-loop μ-loop
 add-t c = search needs

@@ -8,7 +8,7 @@ shared-slice-read-wide : tie.Need-shared-slice-read-wide
 shared-slice-read-wide c = search needs
 
 wide-requires : tie.Need-wide-requires
-wide-requires c κs = search needs
+wide-requires c κs = tt
 
 mul-result : tie.Need-mul-result
 mul-result c = search needs
@@ -20,7 +20,7 @@ shared-slice-read-wide-2 : tie.Need-shared-slice-read-wide-2
 shared-slice-read-wide-2 c = search needs
 
 wide-requires-2 : tie.Need-wide-requires-2
-wide-requires-2 c κs = search needs
+wide-requires-2 c κs = tt
 
 mul-result-2 : tie.Need-mul-result-2
 mul-result-2 c = search needs
@@ -35,7 +35,7 @@ shared-slice-read-wide-3 : tie.Need-shared-slice-read-wide-3
 shared-slice-read-wide-3 c = search needs
 
 wide-requires-3 : tie.Need-wide-requires-3
-wide-requires-3 c κs = search needs
+wide-requires-3 c κs = tt
 
 mul-result-3 : tie.Need-mul-result-3
 mul-result-3 c = search needs
@@ -50,7 +50,7 @@ shared-slice-read-wide-4 : tie.Need-shared-slice-read-wide-4
 shared-slice-read-wide-4 c = search needs
 
 wide-requires-4 : tie.Need-wide-requires-4
-wide-requires-4 c κs = search needs
+wide-requires-4 c κs = tt
 
 add-result-3 : tie.Need-add-result-3
 add-result-3 c = search needs

@@ -1,8 +1,8 @@
--- `monitor::access` meets its contract. Assumes nothing.
+-- `effects::access` meets its contract. Assumes nothing.
 use borrow.Author.Needs.{needs}
-use Rattle.monitor.specs.Effects.{exposing, storing}
-use Rattle.monitor.proofs.access.Statement.{statement}
-use Rattle.monitor.proofs.access.Tie as tie
+use Rattle.effects.specs.Effects.{exposing, storing}
+use Rattle.effects.proofs.access.Statement.{statement}
+use Rattle.effects.proofs.access.Tie as tie
 
 holds-requires : tie.Need-holds-requires
 holds-requires c κs = search needs

@@ -9,7 +9,7 @@ use Rattle.layout.specs.Regions.{outside}
 use Rattle.rules.specs.declared.Step.{Step}
 use Rattle.rules.specs.declared.Monitor.{Monitor}
 use Rattle.rules.specs.Rules.{cause, resets}
-use Rattle.monitor.specs.declared.StepAnswer.{StepAnswer}
+use Rattle.effects.specs.declared.StepAnswer.{StepAnswer}
 
 -- a CPU read is exposed if PC is outside CR; a DMA read is exposed
 abbrev pub cpuExposed : Layout → Step → Bool

@@ -1,6 +1,6 @@
--- `monitor::exposure` meets its contract. Assumes nothing.
-use Rattle.monitor.proofs.exposure.Statement.{statement}
-use Rattle.monitor.proofs.exposure.Tie as tie
+-- `effects::exposure` meets its contract. Assumes nothing.
+use Rattle.effects.proofs.exposure.Statement.{statement}
+use Rattle.effects.proofs.exposure.Tie as tie
 
 returns : tie.Need-returns
 returns c = simp (c .if2 .taken, c .before .if1 .taken)

@@ -1,9 +1,9 @@
--- `monitor::act` meets its contract. Assumes nothing.
+-- `effects::act` meets its contract. Assumes nothing.
 use mathlib.Core.Path.{_∙_}
-use Rattle.monitor.proofs.Quiet.{quiet}
+use Rattle.effects.proofs.Quiet.{quiet}
 use borrow.Author.Needs.{needs}
-use Rattle.monitor.proofs.act.Statement.{statement}
-use Rattle.monitor.proofs.act.Tie as tie
+use Rattle.effects.proofs.act.Statement.{statement}
+use Rattle.effects.proofs.act.Tie as tie
 
 holds-requires : tie.Need-holds-requires
 holds-requires c κs = search needs

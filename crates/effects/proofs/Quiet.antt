@@ -8,8 +8,8 @@ use Rattle.refusal.proofs.Tests.{both}
 use Rattle.layout.specs.declared.Layout.{Layout}
 use Rattle.layout.specs.Regions.{within}
 use Rattle.rules.specs.declared.Step.{Step}
-use Rattle.monitor.specs.declared.StepAnswer.{StepAnswer}
-use Rattle.monitor.specs.Effects.{exposing, stored, storing}
+use Rattle.effects.specs.declared.StepAnswer.{StepAnswer}
+use Rattle.effects.specs.Effects.{exposing, stored, storing}
 
 -- it hands out nothing, and of its stores only the CPU's is left
 pub quiet : (l : Layout) (s : Step) (memory : List ℕ) (h : Bool) → h ≡ within (l .cr) (s .pc) → (h && not (s .active)) ≡ true

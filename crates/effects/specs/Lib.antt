@@ -1,0 +1,3 @@
+pub mod Effects
+pub mod Promises
+pub mod Settled

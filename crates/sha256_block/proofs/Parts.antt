@@ -1,0 +1,37 @@
+-- What each function puts together, on plain variables. Assumes nothing.
+use mathlib.Core.Path.{_≡_, ap, _∙_}
+use mathlib.Core.List.{List, [], _∷_}
+use Prim.Native.Nat.{ℕ}
+use lib.ListN.{getD}
+use Rattle.sha256_block.specs.declared.Vars.{Vars}
+use Rattle.sha256_block.specs.Words.{add}
+use Rattle.sha256_block.specs.Block.{next, schedule, load, round, rounds, addTo, compress}
+
+-- a sum, of which one side is known otherwise
+pub add-left : (r x y z : ℕ) → r ≡ add x z → x ≡ y → r ≡ add y z
+add-left r x y z e f = e ∙ ap (λ (q : ℕ). add q z) f
+
+pub add-right : (r x y z : ℕ) → r ≡ add z x → x ≡ y → r ≡ add z y
+add-right r x y z e f = e ∙ ap (add z) f
+
+pub add-both : (r x y u v : ℕ) → r ≡ add x u → x ≡ y → u ≡ v → r ≡ add y v
+add-both r x y u v e f g = e ∙ ap (λ (q : ℕ). add q u) f ∙ ap (add y) g
+
+pub vars-with : (v : Vars) (a x e y : ℕ) → a ≡ x → e ≡ y
+    → _≡_ {A = Vars} (record { a = a; b = v .a; c = v .b; d = v .c; e = e; f = v .e; g = v .f; h = v .g })
+    (record { a = x; b = v .a; c = v .b; d = v .c; e = y; f = v .e; g = v .f; h = v .g })
+vars-with v a x e y p q =
+    ap (λ (z : ℕ). record { a = z; b = v .a; c = v .b; d = v .c; e = e; f = v .e; g = v .f; h = v .g }) p
+    ∙ ap (λ (z : ℕ). record { a = x; b = v .a; c = v .b; d = v .c; e = z; f = v .e; g = v .f; h = v .g }) q
+
+pub added : (s : List ℕ) (v : Vars) (a b c d e f g h : ℕ) → a ≡ add (getD s 0 0) (v .a) → b ≡ add (getD s 1 0) (v .b)
+    → c ≡ add (getD s 2 0) (v .c) → d ≡ add (getD s 3 0) (v .d) → e ≡ add (getD s 4 0) (v .e) → f ≡ add (getD s 5 0) (v .f)
+    → g ≡ add (getD s 6 0) (v .g) → h ≡ add (getD s 7 0) (v .h) → a ∷ b ∷ c ∷ d ∷ e ∷ f ∷ g ∷ h ∷ [] ≡ addTo s v
+unfolding addTo
+added s v a b c d e f g h ea eb ec ed ee ef eg eh = cc
+
+pub compressed : (s m w r : List ℕ) (l u : Vars) → w ≡ schedule m 48 → l ≡ load s → u ≡ rounds w l 64 → r ≡ addTo s u → r ≡ compress s m
+unfolding compress
+compressed s m w r l u ew el eu er =
+    er
+    ∙ ap (addTo s) (eu ∙ ap (λ (x : List ℕ). rounds x l 64) ew ∙ ap (λ (x : Vars). rounds (schedule m 48) x 64) el)

@@ -58,7 +58,7 @@ use Rattle.runfile.specs.Contents.{LAYOUT, MEMORY, TRACE, offset, begins, entry
 use Rattle.runfile.specs.Segments.{startAt, sizeAt, place, reached, segments, segmentFails, firstWrong, segmentCheck}
 use Rattle.runfile.specs.Promises.{bodiesCheck, judgeCheck, fileTotals}
 use Rattle.demands.specs.Demand1 as claim
-use Rattle.demands.specs.Demand1.{Condition, plain, firstOf, In, Sized, SharedAddress, WrongSize, NotZero, EntryFails, SegmentFails}
+use Rattle.demands.specs.Demand1.{Condition, plain, firstOf, In, HasBytes, SharedAddress, WrongSize, NotZero, EntryFails, SegmentFails}
 use Rattle.demands.specs.Demand1.{memoryLength, layoutConditions, traceConditions, stepConditions, readerConditions, requestConditions, lengthConditions}
 use Rattle.demands.specs.Demand1.{attestCall, fileCall, Answers}
 use Rattle.demands.proofs.Conditions.{Tells, tells-lt, tells-ge, tells-le, tells-eq, tells-ne, tells-not, tells-or, tells-and}
@@ -68,7 +68,7 @@ use Rattle.demands.proofs.Conditions.{Follows, follows-none, follows-pl
 -- ---- 2 to 6: the layout
 
 -- a size is told without a difference
-tells-sized : (r : Region) (n : ℕ) → 1 ≤ n → Tells (not (eqb (size r) n)) (Sized r n → ⊥)
+tells-sized : (r : Region) (n : ℕ) → 1 ≤ n → Tells (not (eqb (size r) n)) (HasBytes r n → ⊥)
 tells-sized r n h = tells-not (tells-as (λ e. omega arith) (λ e. omega arith) (tells-eq (size r) n))
 
 tells-small : (r : Region) (n : ℕ) → 1 ≤ n → Tells (ltb (size r) n) (r .hi + 1 < r .lo + n)

@@ -35,7 +35,7 @@ use Rattle.station.specs.Lengths.{Lengths}
 use Rattle.station.specs.Promises.{checkUnfit, ChecksReply}
 use Rattle.station.proofs.Laws.{token-fits, lengths-fit, fit-lengths, said-yes, says-yes, said-no, says-no, said-refused, says-refused}
 use Rattle.demands.specs.Demand2 as claim
-use Rattle.demands.specs.Demand2.{Answers, SameRequest, Agrees, posted}
+use Rattle.demands.specs.Demand2.{Served, SameRequest, Agrees, posted}
 use Rattle.demands.proofs.Posted.{posted-long, posted-challenge, posted-received, posted-key, posted-counter}
 
 -- ---- the routine, on the board
@@ -74,8 +74,8 @@ module _ (memory layout memory′ : List ℕ) (b : Bytes layout) (p : Attests me
   counted =
       ap (λ (m : List ℕ). counter (layoutOf layout) m) left ∙ board.accepted-counter (layoutOf layout) lies memory (allowed .long)
 
-  answers : Answers (layoutOf layout) memory memory′
-  answers =
+  served : Served (layoutOf layout) memory memory′
+  served =
       record {
         reply = replied-due ∙ due-is (layoutOf layout) memory ∙ reply-is _ _ _;
         counted = counted;
@@ -84,7 +84,7 @@ module _ (memory layout memory′ : List ℕ) (b : Bytes layout) (p : Attests me
       }
 
 pub answers-so : claim.AnswersSo
-answers-so = answers
+answers-so = served
 
 pub refuses-so : claim.RefusesSo
 refuses-so = attested-refused

@@ -62,7 +62,7 @@ counter-kept l t x (suc n) a w f =
     counter-stays l t x n a w (f n (omega arith)) ∙ counter-kept l t x n a w (λ i h. f i (omega arith))
 
 -- a run in which the attestation code leaves CTR alone keeps CR, KR and CTR
-pub run-keeps : (l : Layout) (t : ℕ → Step) (x : State) (n : ℕ)
+run-keeps : (l : Layout) (t : ℕ → Step) (x : State) (n : ℕ)
     → ((i : ℕ) → i < n → storesCounter l (remembers l t x i) (t i) ≡ false) → Keeps l (x .memory) (before l t x n .memory)
 run-keeps l t x n f =
     let y = before l t x n .memory in

@@ -96,9 +96,6 @@ small-pick : (t : Bool) (a b n : ℕ) → (t ≡ true → a < n) → (t ≡ fals
 small-pick true a b n f g = f refl
 small-pick false a b n f g = g refl
 
-at-addressed : Addressed (at 0)
-at-addressed = record { pc = omega arith; cpu = omega arith; dma = omega arith }
-
 module _ (memory layout memory′ : List ℕ) (h : Bytes layout) (a : Attests memory layout memory′ Done) where
   abbrev lb : Layout
   lb = layoutOf layout
@@ -112,7 +109,7 @@ module _ (memory layout memory′ : List ℕ) (h : Bytes layout) (a : Attests me
       (λ t. omega (arith, ltb-true i 32 t, lies .mail-in)) (λ t. omega (arith, ltb-false i 32 t, lies .counter-in))
 
   addressed : (i : ℕ) → Addressed (scripted lb memory i)
-  addressed zero = at-addressed
+  addressed zero = record { pc = omega arith; cpu = omega arith; dma = omega arith }
   addressed (suc i) =
       cases (ltb i 64)
       (λ t.
@@ -123,7 +120,7 @@ module _ (memory layout memory′ : List ℕ) (h : Bytes layout) (a : Attests me
         cpu = g;
         dma = g;
       }))
-      (λ t. simp t at-addressed)
+      (λ t. simp t (record { pc = omega arith; cpu = omega arith; dma = omega arith }))
 
 -- ---- attestation as a trace
 

@@ -1,7 +1,7 @@
 -- The claims about visits to the attestation code hold. Assumes nothing.
 use mathlib.Core.Path.{_≡_, refl, sym, ap, _∙_}
 use mathlib.Core.Logic.{_⊎_, inl, inr}
-use mathlib.Core.Bool.{Bool, true, false, not, _&&_, _||_, and-false, or-true}
+use mathlib.Core.Bool.{true, false, not, _||_, and-false, or-true}
 use mathlib.Core.List.{List}
 use Prim.Native.Nat.{ℕ, zero, suc, _+_, _-_, _≤_, _<_}
 use native.Mathlib.Nat.{not-suc-le-zero}
@@ -21,8 +21,9 @@ use Rattle.layout.proofs.Laws.{done-good, ends-within, elsewhere}
 use Rattle.layout.proofs.Placed.{Placed, placed}
 use Rattle.rules.specs.declared.Step.{Step}
 use Rattle.rules.specs.declared.Monitor.{Monitor}
-use Rattle.rules.specs.Rules.{cause, next}
+use Rattle.rules.specs.Rules.{writable, rule15, cause, next}
 use Rattle.rules.proofs.Laws.{unbroken-passes}
+use Rattle.rules.proofs.None.{visit-lowest}
 use Rattle.monitor.specs.Effects.{stored, storing, written}
 use Rattle.monitor.specs.Runs.{State, before}
 use Rattle.board.specs.Memory.{challenge, replyAt}
@@ -39,31 +40,13 @@ use Rattle.demands.specs.Visit.{Inside, Free, Plays, storeAt, storeByte,
 module _ (l : Layout) (m : Monitor) (s : Step) (free : m .held ≡ false) where
   -- a step inside, from CR or at CR's lowest address
   inside-passes : Inside l s → (within (l .cr) (m .last) ≡ false → s .pc ≡ l .cr .lo) → cause l m s ≡ 0
+  unfolding cause
   inside-passes i f =
-      let p = i .pc in
-      let d = i .idle in
-      unbroken-passes l m s (simp free) (record {
-        n1 = simp p;
-        n2 = simp (p, free, and-false);
-        n3 =
-            cases (within (l .cr) (m .last)) (λ e. simp (free, e))
-            (λ e. simp (free, e, p, eq-eqb (s .pc) (l .cr .lo) (f e)));
-        n4 = simp (i .calm, free);
-        n5 = simp p;
-        n6 =
-            cases (s .writes)
-            (λ e. simp (free, p, e) (one-of (within (l .xs) (s .cpu)) (within (l .mr) (s .cpu)) (within (l .ctr) (s .cpu)) (i .writes e)))
-            (λ e. simp (free, p, e));
-        n7 = simp d;
-        n8 = simp d;
-        n9 = simp (d, free);
-        n10 = simp (p, d, and-false);
-      })
-    where
-      one-of : (a b c : Bool) → (a || b || c) ≡ true → (not a && not b && not c) ≡ false
-      one-of true b c e = refl
-      one-of false true c e = refl
-      one-of false false c e = simp e
+      let came : (within (l .cr) (m .last) || eqb (s .pc) (l .cr .lo)) ≡ true =
+      cases (within (l .cr) (m .last)) (λ e. simp e) (λ e. simp (e, eq-eqb (s .pc) (l .cr .lo) (f e))) in
+      let lawful : (not (s .writes) || writable l (s .cpu)) ≡ true = cases (s .writes) (λ e. simp (e, i .writes e)) (λ e. simp e) in
+      let away : rule15 m s ≡ false = simp free in
+      simp (away, visit-lowest l m s (simp (i .pc, came, i .calm, i .idle, lawful)))
 
   -- a step outside that accesses nothing, from CR's highest address
   outside-passes : m .last ≡ l .cr .hi → within (l .cr) (s .pc) ≡ false → s .reads ≡ false → s .writes ≡ false → s .active ≡ false
@@ -236,7 +219,7 @@ module _ (b : List ℕ) (g : Good b) where
       (ends-within r (r .lo) (omega arith) o, ends-within r (r .hi) o (omega arith))
 
 -- rule 6 allows a write there
-allows : (l : Layout) (a : ℕ) → mrOrCtr l a → (within (l .xs) a || within (l .mr) a || within (l .ctr) a) ≡ true
+allows : (l : Layout) (a : ℕ) → mrOrCtr l a → writable l a ≡ true
 allows l a (inl e) = simp (e, or-true)
 allows l a (inr e) = simp (e, or-true)
 

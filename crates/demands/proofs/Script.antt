@@ -17,11 +17,10 @@ use Rattle.refusal.proofs.Bytes.{bytes-cons, bytes-append}
 use Rattle.refusal.proofs.Tests.{cases}
 use Rattle.refusal.proofs.First.{found-none}
 use Rattle.layout.specs.declared.Layout.{Layout}
-use Rattle.layout.specs.Layouts.{layoutOf, layoutCheck}
+use Rattle.layout.specs.Layouts.{layoutOf}
 use Rattle.layout.specs.Calls.{memoryBytes, callCheck}
 use Rattle.layout.proofs.Laws.{zero-outside}
 use Rattle.layout.proofs.Calls.{call-rest}
-use Rattle.layout.proofs.Placed.{Placed, placed}
 use Rattle.rules.specs.declared.Step.{Step}
 use Rattle.rules.specs.declared.Monitor.{Monitor}
 use Rattle.rules.specs.Steps.{stepOf, flags, encode, Addressed}
@@ -37,13 +36,14 @@ use Rattle.board.specs.Memory.{challenge, replyAt}
 use Rattle.board.specs.Attestation.{due}
 use Rattle.board.specs.Promises.{Attests}
 use Rattle.board.proofs.Stores.{bytes-read}
-use Rattle.board.proofs.Laws.{bytes-due, attested-done}
+use Rattle.board.proofs.Laws.{bytes-due}
 use Rattle.demands.specs.Traces.{remembers, causeAt, InParts}
 use Rattle.demands.specs.Marked.{at}
 use Rattle.demands.specs.Script as claim
 use Rattle.demands.specs.Visit.{Free, Plays, storeAt, storeByte, played}
 use Rattle.demands.specs.Script.{encoded, scripted, script}
 use Rattle.monitor.proofs.Runs.{Alike, alike}
+use Rattle.demands.proofs.Accepts.{Accepts, accepts}
 use Rattle.demands.proofs.Runs.{in-parts}
 use Rattle.demands.proofs.Traces.{release}
 use Rattle.demands.proofs.Visit.{visit-passes, leaves-freely, visit-attests, can-be-played}
@@ -96,32 +96,6 @@ small-pick : (t : Bool) (a b n : ℕ) → (t ≡ true → a < n) → (t ≡ fals
 small-pick true a b n f g = f refl
 small-pick false a b n f g = g refl
 
-module _ (memory layout memory′ : List ℕ) (h : Bytes layout) (a : Attests memory layout memory′ Done) where
-  abbrev lb : Layout
-  lb = layoutOf layout
-
-  lies : Placed lb
-  lies = placed layout h (attested-done memory layout memory′ a .0 .laid)
-
-  address : (i : ℕ) → i < 64 → storeAt lb i < memoryBytes
-  address i e =
-      small-pick (ltb i 32) (replyAt lb + i) (lb .ctr .lo + (i - 32)) memoryBytes
-      (λ t. omega (arith, ltb-true i 32 t, lies .mail-in)) (λ t. omega (arith, ltb-false i 32 t, lies .counter-in))
-
-  addressed : (i : ℕ) → Addressed (scripted lb memory i)
-  addressed zero = record { pc = omega arith; cpu = omega arith; dma = omega arith }
-  addressed (suc i) =
-      cases (ltb i 64)
-      (λ t.
-      let g = address i (ltb-true i 64 t) in
-      simp t (record {
-        pc =
-            small-pick (eqb i 63) (lb .cr .hi) (lb .cr .lo) memoryBytes (λ u. code-small layout h .1) (λ u. code-small layout h .0);
-        cpu = g;
-        dma = g;
-      }))
-      (λ t. simp t (record { pc = omega arith; cpu = omega arith; dma = omega arith }))
-
 -- ---- attestation as a trace
 
 -- steps without a cause do not count as resets
@@ -165,8 +139,27 @@ module _ (memory layout memory′ : List ℕ) (h : Bytes layout) (a : Attests me
   abbrev rest : ℕ → Step
   rest i = all (suc i)
 
-  laid : layoutCheck layout ≡ Done
-  laid = attested-done memory layout memory′ a .0 .laid
+  call : Accepts memory layout memory′
+  call = accepts memory layout memory′ h a
+
+  address : (i : ℕ) → i < 64 → storeAt ly i < memoryBytes
+  address i e =
+      small-pick (ltb i 32) (replyAt ly + i) (ly .ctr .lo + (i - 32)) memoryBytes
+      (λ t. omega (arith, ltb-true i 32 t, call .lies .mail-in)) (λ t. omega (arith, ltb-false i 32 t, call .lies .counter-in))
+
+  addressed : (i : ℕ) → Addressed (all i)
+  addressed zero = record { pc = omega arith; cpu = omega arith; dma = omega arith }
+  addressed (suc i) =
+      cases (ltb i 64)
+      (λ t.
+      let g = address i (ltb-true i 64 t) in
+      simp t (record {
+        pc =
+            small-pick (eqb i 63) (ly .cr .hi) (ly .cr .lo) memoryBytes (λ u. code-small layout h .1) (λ u. code-small layout h .0);
+        cpu = g;
+        dma = g;
+      }))
+      (λ t. simp t (record { pc = omega arith; cpu = omega arith; dma = omega arith }))
 
   released-first : causeAt ly all (begin memory) 0 ≡ 0
   unfolding before
@@ -177,7 +170,7 @@ module _ (memory layout memory′ : List ℕ) (h : Bytes layout) (a : Attests me
   after-first = simp (released-first, keeps-memory ly start (at 0) memory released-first refl refl)
 
   free-first : Free ly (released memory)
-  free-first = record { unheld = refl; outside = zero-outside layout laid }
+  free-first = record { unheld = refl; outside = zero-outside layout (call .allowed .laid) }
 
   plays-rest : Plays ly memory rest
   plays-rest =
@@ -190,7 +183,7 @@ module _ (memory layout memory′ : List ℕ) (h : Bytes layout) (a : Attests me
       (λ e. visit-passes ly rest (released memory) 64 free-first (plays-rest .visit) i (ltb-true i 64 e))
       (λ e.
       let q : i ≡ 64 = omega (arith, ltb-false i 64 e) in
-      rw q (leaves-freely ly rest (released memory) 64 free-first (plays-rest .visit) (zero-outside layout laid) refl refl refl))
+      rw q (leaves-freely ly rest (released memory) 64 free-first (plays-rest .visit) (zero-outside layout (call .allowed .laid)) refl refl refl))
 
   rest-leaves : before ly rest (released memory) 65 .memory ≡ memory′
   unfolding before
@@ -220,14 +213,14 @@ module _ (memory layout memory′ : List ℕ) (h : Bytes layout) (a : Attests me
     b = script ly memory
 
     same : Alike ly (steps b) all (begin memory) 66
-    same = alike ly (steps b) all (begin memory) 66 (λ i e. tells-steps all 66 i e (addressed memory layout memory′ h a i))
+    same = alike ly (steps b) all (begin memory) 66 (λ i e. tells-steps all 66 i e (addressed i))
 
     counts : count b ≡ 66
     counts = omega (arith, length-encoded all 66)
 
     checked : callCheck memory layout (traceCheck b (length room)) ≡ Done
     checked =
-        call-rest memory layout (traceCheck b (length room)) (attested-done memory layout memory′ a .0 .long) laid
+        call-rest memory layout (traceCheck b (length room)) (call .allowed .long) (call .allowed .laid)
         ∙ encoded-fits all 66 (length room) (omega arith) k
 
     judged : r ≡ traced.Judged (record { steps = 66; resets = 0 })

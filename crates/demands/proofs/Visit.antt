@@ -7,7 +7,7 @@ use Prim.Native.Nat.{ℕ, zero, suc, _+_, _-_, _≤_, _<_}
 use native.Mathlib.Nat.{not-suc-le-zero}
 use native.Mathlib.Omega.{arith}
 use lib.Dec.{eqb, ltb}
-use lib.ListN.{getD, take, set}
+use lib.ListN.{length, getD, take, set}
 use lib.Seq.{sets, take-all, getD-set-same}
 use borrow.Author.Tests.{eq-eqb, ltb-true, ltb-false, lt-ltb, le-ltb}
 use Rattle.refusal.specs.Bytes.{Bytes}
@@ -17,8 +17,8 @@ use Rattle.layout.specs.declared.Layout.{Layout}
 use Rattle.layout.specs.Regions.{within}
 use Rattle.layout.specs.Layouts.{CR, KR, MR, CTR, region, layoutOf}
 use Rattle.layout.specs.Good.{Good}
-use Rattle.layout.proofs.Laws.{done-good, ends-within, elsewhere}
-use Rattle.layout.proofs.Placed.{Placed, placed}
+use Rattle.layout.proofs.Laws.{ends-within, elsewhere}
+use Rattle.layout.proofs.Placed.{Placed}
 use Rattle.rules.specs.declared.Step.{Step}
 use Rattle.rules.specs.declared.Monitor.{Monitor}
 use Rattle.rules.specs.Rules.{writable, rule15, cause, next}
@@ -30,10 +30,11 @@ use Rattle.board.specs.Memory.{challenge, replyAt}
 use Rattle.board.specs.Attestation.{due, accepted}
 use Rattle.board.specs.Promises.{Attests}
 use Rattle.board.proofs.Stores.{sets-more}
-use Rattle.board.proofs.Laws.{length-due, length-challenge, Allowed, attested-done}
+use Rattle.board.proofs.Laws.{length-due, length-challenge}
 use Rattle.demands.specs.Traces.{crOrKr, remembers, causeAt}
 use Rattle.demands.specs.Visit as claim
 use Rattle.demands.specs.Visit.{Inside, Free, Plays, storeAt, storeByte, writing}
+use Rattle.demands.proofs.Accepts.{Accepts, accepts}
 
 -- ---- steps that pass
 
@@ -144,17 +145,6 @@ store-in l p i h =
     let q = ltb-false i 32 e in
     inr (simp e (ends-within (l .ctr) (l .ctr .lo + (i - 32)) (omega arith) (omega (arith, p .counter)))))
 
--- an accepted call
-module _ (memory layout memory′ : List ℕ) (a : Attests memory layout memory′ Done) where
-  allowed : Allowed memory layout
-  allowed = attested-done memory layout memory′ a .0
-
-  good : Good layout
-  good = done-good layout (allowed .laid)
-
-  leaves : memory′ ≡ accepted (layoutOf layout) memory
-  leaves = attested-done memory layout memory′ a .1
-
 module _ (layout memory′ : List ℕ) (t : ℕ → Step) (x : State) (h : Bytes layout) (free : Free (layoutOf layout) x)
     (a : Attests (x .memory) layout memory′ Done) (plays : Plays (layoutOf layout) (x .memory) t) where
   abbrev l : Layout
@@ -163,8 +153,11 @@ module _ (layout memory′ : List ℕ) (t : ℕ → Step) (x : State) (h : Bytes
   abbrev memory : List ℕ
   memory = x .memory
 
-  places : Placed l
-  places = placed layout h (allowed memory layout memory′ a .laid)
+  call : Accepts memory layout memory′
+  call = accepts memory layout memory′ h a
+
+  length-is : length (challenge l memory) ≡ 32
+  length-is = length-challenge l (call .lies) memory (call .allowed .long)
 
   -- step i makes its store
   each-stores : (i : ℕ) → i < 64 → before l t x (suc i) .memory ≡ set (before l t x i .memory) (storeAt l i) (storeByte l memory i)
@@ -172,7 +165,7 @@ module _ (layout memory′ : List ℕ) (t : ℕ → Step) (x : State) (h : Bytes
   each-stores i k =
       step-stores l (remembers l t x i) (t i) (before l t x i .memory)
       (visit-passes l t x 64 free (plays .visit) i k) (plays .visit .each i k .idle) (plays .writes i k)
-      (ap (crOrKr l) (plays .address i k) ∙ off-rom layout (good memory layout memory′ a) (storeAt l i) (store-in l places i k))
+      (ap (crOrKr l) (plays .address i k) ∙ off-rom layout (call .good) (storeAt l i) (store-in l (call .lies) i k))
       ∙ ap (λ (b : ℕ). set (before l t x i .memory) b (t i .cpudata)) (plays .address i k)
       ∙ ap (set (before l t x i .memory) (storeAt l i)) (plays .byte i k)
 
@@ -192,18 +185,16 @@ module _ (layout memory′ : List ℕ) (t : ℕ → Step) (x : State) (h : Bytes
       reply-stored 32 (omega arith) ∙ ap (sets memory (replyAt l)) (take-all 32 (due l memory) (omega (arith, length-due l memory)))
   counter-stored (suc j) k =
       let q : 32 + suc j ≡ suc (32 + j) = omega arith in
-      let n = length-challenge l places memory (allowed memory layout memory′ a .long) in
       rw q (each-stores (32 + j) (omega arith)
       ∙ simp (counter-stored j (omega arith), counter-address l j, counter-byte l memory j)
-      (sym (sets-more first (l .ctr .lo) (challenge l memory) j (omega arith))))
+      (sym (sets-more first (l .ctr .lo) (challenge l memory) j (omega (arith, length-is)))))
 
   attests : before l t x 64 .memory ≡ memory′
   unfolding accepted
   attests =
-      let n = length-challenge l places memory (allowed memory layout memory′ a .long) in
       counter-stored 32 (omega arith)
-      ∙ ap (sets first (l .ctr .lo)) (take-all 32 (challenge l memory) (omega arith))
-      ∙ sym (leaves memory layout memory′ a)
+      ∙ ap (sets first (l .ctr .lo)) (take-all 32 (challenge l memory) (omega (arith, length-is)))
+      ∙ sym (call .left)
 
 pub visit-attests : claim.VisitAttests
 visit-attests = attests
@@ -226,9 +217,8 @@ allows l a (inr e) = simp (e, or-true)
 pub can-be-played : claim.CanBePlayed
 can-be-played memory layout memory′ h a =
     let l = layoutOf layout in
-    let w = allowed memory layout memory′ a in
-    let p = placed layout h (w .laid) in
-    let c = code-ends layout (good memory layout memory′ a) in
+    let w = accepts memory layout memory′ h a in
+    let c = code-ends layout (w .good) in
     record {
       visit =
           record {
@@ -239,7 +229,7 @@ can-be-played memory layout memory′ h a =
                   pc = cases (eqb i 63) (λ e. simp e (c .1)) (λ e. simp e (c .0));
                   calm = refl;
                   idle = refl;
-                  writes = λ e. allows l (storeAt l i) (store-in l p i k);
+                  writes = λ e. allows l (storeAt l i) (store-in l (w .lies) i k);
                 };
             ends = refl;
           };

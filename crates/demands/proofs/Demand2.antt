@@ -3,9 +3,9 @@ use mathlib.Core.Path.{_≡_, sym, ap, subst, _∙_}
 use mathlib.Core.Bool.{true}
 use mathlib.Core.List.{List}
 use Prim.Native.Nat.{ℕ, _+_, _≤_}
+use native.Mathlib.Nat.{add-zero}
 use native.Mathlib.Omega.{arith}
-use lib.ListN.{length, getD, take, drop}
-use lib.Seq.{take-take}
+use lib.ListN.{length, getD}
 use Rattle.refusal.specs.Bytes.{Bytes}
 use Rattle.refusal.specs.Answers.{lent}
 use Rattle.refusal.specs.Settled.{row-settled}
@@ -89,15 +89,14 @@ stores-bytes memory layout memory′ r b p =
 
 -- challenge and token are read from MR's first 64 bytes
 module _ (l : Layout) (x y : List ℕ) (s : SameRequest l x y) where
+  same-mail : (k : ℕ) → k + 32 ≤ 64 → bytesAt (l .mr .lo + k) 32 x ≡ bytesAt (l .mr .lo + k) 32 y
+  same-mail k h = read-inside x (l .mr .lo) 64 k 32 h ∙ ap (bytesAt k 32) (s .mail) ∙ sym (read-inside y (l .mr .lo) 64 k 32 h)
+
   same-challenge : challenge l x ≡ challenge l y
-  same-challenge =
-      sym (take-take 32 64 (drop (l .mr .lo) x) (omega arith)) ∙ ap (take 32) (s .mail) ∙ take-take 32 64 (drop (l .mr .lo) y) (omega arith)
+  same-challenge = rw add-zero at (same-mail 0 (omega arith))
 
   same-received : received l x ≡ received l y
-  same-received =
-      read-inside x (l .mr .lo) 64 32 32 (omega arith)
-      ∙ ap (bytesAt 32 32) (s .mail)
-      ∙ sym (read-inside y (l .mr .lo) 64 32 32 (omega arith))
+  same-received = same-mail 32 (omega arith)
 
 same-check : (layout x y : List ℕ) → SameRequest (layoutOf layout) x y → attestCheck x layout ≡ attestCheck y layout
 unfolding attestCheck

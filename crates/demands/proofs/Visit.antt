@@ -119,22 +119,6 @@ off-rom b g a (inr e) =
     let k : within (region b KR) a ≡ false = elsewhere g CTR KR (omega arith) (omega arith) (λ q. omega arith) refl refl a e in
     simp (c, k)
 
-reply-address : (l : Layout) (i : ℕ) → i < 32 → storeAt l i ≡ replyAt l + i
-reply-address l i h = simp (lt-ltb i 32 h)
-
-counter-address : (l : Layout) (j : ℕ) → storeAt l (32 + j) ≡ l .ctr .lo + j
-counter-address l j =
-    let q : 32 + j - 32 ≡ j = omega arith in
-    simp (le-ltb (32 + j) 32 (omega arith), q)
-
-reply-byte : (l : Layout) (memory : List ℕ) (i : ℕ) → i < 32 → storeByte l memory i ≡ getD (due l memory) i 0
-reply-byte l memory i h = simp (lt-ltb i 32 h)
-
-counter-byte : (l : Layout) (memory : List ℕ) (j : ℕ) → storeByte l memory (32 + j) ≡ getD (challenge l memory) j 0
-counter-byte l memory j =
-    let q : 32 + j - 32 ≡ j = omega arith in
-    simp (le-ltb (32 + j) 32 (omega arith), q)
-
 store-in : (l : Layout) → Placed l → (i : ℕ) → i < 64 → mrOrCtr l (storeAt l i)
 store-in l p i h =
     cases (ltb i 32)
@@ -174,7 +158,7 @@ module _ (layout memory′ : List ℕ) (t : ℕ → Step) (x : State) (h : Bytes
   reply-stored zero k = refl
   reply-stored (suc i) k =
       each-stores i (omega arith)
-      ∙ simp (reply-stored i (omega arith), reply-address l i k, reply-byte l memory i k)
+      ∙ simp (reply-stored i (omega arith), lt-ltb i 32 k)
       (sym (sets-more memory (replyAt l) (due l memory) i (omega (arith, length-due l memory))))
 
   abbrev first : List ℕ
@@ -185,8 +169,9 @@ module _ (layout memory′ : List ℕ) (t : ℕ → Step) (x : State) (h : Bytes
       reply-stored 32 (omega arith) ∙ ap (sets memory (replyAt l)) (take-all 32 (due l memory) (omega (arith, length-due l memory)))
   counter-stored (suc j) k =
       let q : 32 + suc j ≡ suc (32 + j) = omega arith in
+      let d : 32 + j - 32 ≡ j = omega arith in
       rw q (each-stores (32 + j) (omega arith)
-      ∙ simp (counter-stored j (omega arith), counter-address l j, counter-byte l memory j)
+      ∙ simp (counter-stored j (omega arith), le-ltb (32 + j) 32 (omega arith), d)
       (sym (sets-more first (l .ctr .lo) (challenge l memory) j (omega (arith, length-is)))))
 
   attests : before l t x 64 .memory ≡ memory′

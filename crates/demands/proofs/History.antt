@@ -6,7 +6,7 @@ use mathlib.Core.List.{List}
 use Prim.Native.Nat.{ℕ, zero, suc, _≤_, _<_}
 use native.Mathlib.Omega.{arith}
 use lib.Dec.{eqb, ltb}
-use lib.ListN.{length, getD}
+use lib.ListN.{length}
 use borrow.Author.Tests.{eqb-true, eqb-false, ltb-true, ltb-false}
 use Rattle.refusal.specs.Bytes.{Bytes}
 use Rattle.refusal.specs.Answers.{lent}
@@ -37,7 +37,7 @@ use Rattle.demands.specs.History as claim
 use Rattle.demands.specs.History.{Event, attest, trace, change, Keeps, storesCounter, Happens, History, Accepted, counterAt}
 use Rattle.demands.proofs.Accepts.{accepts}
 use Rattle.demands.proofs.Posted.{request-is, request-keeps, request-done}
-use Rattle.demands.proofs.Traces.{length-kept, rom, guarded}
+use Rattle.demands.proofs.Traces.{length-kept, stays-through, rom, guarded}
 
 -- ---- a trace
 
@@ -51,13 +51,6 @@ counter-stays l t x n a w e =
           clash (storesCounter l (remembers l t x n) (t n)) (simp (c .passes, c .inside, c .writes, c .address, w)) e
     ]
 
-counter-kept : (l : Layout) (t : ℕ → Step) (x : State) (n a : ℕ) → within (l .ctr) a ≡ true
-    → ((i : ℕ) → i < n → storesCounter l (remembers l t x i) (t i) ≡ false) → byteAt l t x n a ≡ getD (x .memory) a 0
-unfolding before
-counter-kept l t x zero a w f = refl
-counter-kept l t x (suc n) a w f =
-    counter-stays l t x n a w (f n (omega arith)) ∙ counter-kept l t x n a w (λ i h. f i (omega arith))
-
 -- a run in which the attestation code leaves CTR alone keeps CR, KR and CTR
 run-keeps : (l : Layout) (t : ℕ → Step) (x : State) (n : ℕ)
     → ((i : ℕ) → i < n → storesCounter l (remembers l t x i) (t i) ≡ false) → Keeps l (x .memory) (before l t x n .memory)
@@ -68,7 +61,7 @@ run-keeps l t x n f =
       long = e;
       code = region-agrees (l .cr) y (x .memory) e (λ a w. rom l t x n a (simp w));
       key = region-agrees (l .kr) y (x .memory) e (λ a w. rom l t x n a (simp (w, or-true)));
-      counter = region-agrees (l .ctr) y (x .memory) e (λ a w. counter-kept l t x n a w f);
+      counter = region-agrees (l .ctr) y (x .memory) e (λ a w. stays-through l t x n a (λ i h. counter-stays l t x i a w (f i h)));
     }
 
 -- a call that keeps them where it is not refused keeps them

@@ -7,8 +7,8 @@ use Prim.Native.Nat.{ℕ, zero, suc, _+_, _-_, _*_, _/_, _%_, _≤_, _<_}
 use native.Mathlib.Nat.{not-suc-le-zero}
 use native.Mathlib.Omega.{arith}
 use lib.Dec.{eqb, ltb}
-use lib.ListN.{length, getD, take, drop, length-append, length-drop}
-use lib.Seq.{drop-at, take-append-le, drop-append-le}
+use lib.ListN.{length, getD, take, length-append}
+use lib.Seq.{drop-at}
 use borrow.Author.Tests.{eqb-true, eqb-false, ltb-true, ltb-false, lt-ltb, le-ltb}
 use Rattle.refusal.specs.Bytes.{Bytes}
 use Rattle.refusal.specs.Choice.{pick}
@@ -45,7 +45,7 @@ use Rattle.demands.specs.Script.{encoded, scripted, script}
 use Rattle.monitor.proofs.Runs.{Alike, alike}
 use Rattle.demands.proofs.Accepts.{Accepts, accepts}
 use Rattle.demands.proofs.Runs.{in-parts}
-use Rattle.demands.proofs.Traces.{release}
+use Rattle.demands.proofs.Traces.{joined-before, release}
 use Rattle.demands.proofs.Visit.{visit-passes, leaves-freely, visit-attests, can-be-played}
 
 -- ---- a trace's bytes
@@ -65,9 +65,7 @@ encoded-bytes t (suc n) i h =
     (λ e. rw (eqb-true i n e) (ap (take stepSize) (drop-at b (encode (t n)) (stepSize * n) q)))
     (λ e.
     let g : i ≢ n = eqb-false i n e in
-    let p : stepSize * i ≤ length b = omega arith in
-    let w : stepSize ≤ length (drop (stepSize * i) b) = simp length-drop (omega arith) in
-    rw (drop-append-le, take-append-le) (encoded-bytes t n i (omega arith)))
+    joined-before b (encode (t n)) n i q (omega arith) ∙ encoded-bytes t n i (omega arith))
 
 pub tells-steps : claim.TellsSteps
 tells-steps t n i h k = ap stepOf (encoded-bytes t n i h) ∙ tells-step (t i) k

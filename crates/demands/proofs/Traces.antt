@@ -35,7 +35,7 @@ use Rattle.monitor.proofs.Laws.{length-before, written-byte, answer-at}
 use Rattle.monitor.proofs.Checks.{traced-judged, Fitting, trace-passed, one-step, one-passes}
 use Rattle.monitor.specs.Promises.{traceCheck, stepCheck, Traces}
 use Rattle.demands.specs.Traces as claim
-use Rattle.demands.specs.Traces.{crOrKr, ctrOrXs, remembers, causeAt, resetsAt}
+use Rattle.demands.specs.Traces.{crOrKr, ctrOrXs, remembers, causeAt, resetsAt, byteAt}
 use Rattle.demands.proofs.Runs.{in-parts}
 use Rattle.demands.proofs.Exposed.{cpu-outside, dma-outside}
 
@@ -61,10 +61,16 @@ step-rom l m s memory a e =
       | inr (inr d) ↦ lands-not-rom l (s .active && s .stores) (s .dma) (d .lands) (rw (d .address) e)
     ]
 
+-- a byte that each step leaves as it is
+pub stays-through : (l : Layout) (t : ℕ → Step) (x : State) (n a : ℕ)
+    → ((i : ℕ) → i < n → byteAt l t x (suc i) a ≡ byteAt l t x i a) → byteAt l t x n a ≡ getD (x .memory) a 0
+unfolding before
+stays-through l t x zero a f = refl
+stays-through l t x (suc n) a f = f n (omega arith) ∙ stays-through l t x n a (λ i h. f i (omega arith))
+
 pub rom : claim.Rom
 unfolding before
-rom l t x zero a e = refl
-rom l t x (suc n) a e = step-rom l (remembers l t x n) (t n) (before l t x n .memory) a e ∙ rom l t x n a e
+rom l t x n a e = stays-through l t x n a (λ i h. step-rom l (remembers l t x i) (t i) (before l t x i .memory) a e)
 
 lands-on : (l : Layout) (on : Bool) (a : ℕ) → lands l on a ≡ true → on ≡ true
 lands-on l on a e = both on (outside (l .cr) a) (both (on && outside (l .cr) a) (outside (l .kr) a) e .0) .0
@@ -215,13 +221,16 @@ release l t x n h p r w d = simp (h, p, r, w, d, and-false)
 pub parts : claim.Parts
 parts l t x n k = in-parts l t t (λ i. t (n + i)) x n k (λ i h. refl) (λ i h. refl)
 
+pub joined-before : (b c : List ℕ) (n i : ℕ) → length b ≡ stepSize * n → i < n → stepBytes (b ++ c) i ≡ stepBytes b i
+joined-before b c n i e h =
+    let p : stepSize * i ≤ length b = omega arith in
+    let q : stepSize ≤ length (drop (stepSize * i) b) = simp length-drop (omega arith) in
+    rw (drop-append-le, take-append-le)
+
 pub joins : claim.Joins
 joins b c n e =
     record {
-      first = λ i h.
-          let p : stepSize * i ≤ length b = omega arith in
-          let q : stepSize ≤ length (drop (stepSize * i) b) = simp length-drop (omega arith) in
-          ap stepOf (rw (drop-append-le, take-append-le));
+      first = λ i h. ap stepOf (joined-before b c n i e h);
       second = λ i.
           let p : stepSize * (n + i) ≡ length b + stepSize * i = omega arith in
           ap stepOf (rw (p, drop-append-add));

@@ -15,9 +15,9 @@ use Rattle.refusal.proofs.Tests.{both}
 use Rattle.refusal.specs.Choice.{pick}
 use Rattle.sha256.specs.Running.{blockOf}
 use Rattle.layout.specs.Layouts.{word}
-use Rattle.rules.specs.Steps.{bit, stepOf}
+use Rattle.rules.specs.Steps.{bit, stepOf, encode}
 use Rattle.codecs.specs.Numbers.{number, little}
-use Rattle.codecs.specs.Values.{wordsOf, wordsBytes, stateOf, stateBytes, stepBytes}
+use Rattle.codecs.specs.Values.{wordsOf, wordsBytes, stateOf, stateBytes}
 use Rattle.codecs.specs.Promises.{WritesHex}
 use Rattle.codecs.specs.Back.{BytesBack, NumberBack, StateBack, StepBack}
 
@@ -96,20 +96,15 @@ flags-back x h =
     let s = halved x in
     cc (summed x (x / 2) (x / 4) (x / 8) (x / 1 % 2) (x / 2 % 2) (x / 4 % 2) (x / 8 % 2) (x / 16 % 2) (s .0) (s .1) (s .2) (halved-twice x h))
 
-word-back : (x y : ℕ) → x < 256 → y < 256 → little 2 (word x y) ≡ x ∷ y ∷ []
-unfolding little
-word-back x y h k =
-    let l : word x y % 256 ≡ x = low x y h in
-    let m : word x y / 256 ≡ y = high x y h in
-    let n : y % 256 ≡ y = omega arith in
-    cc
+word-back : (x y : ℕ) → x < 256 → y < 256 → (word x y % 256 ≡ x) × (word x y / 256 % 256 ≡ y)
+word-back x y h k = (omega arith, omega arith)
 
 twelve : (b : List ℕ) → length b ≡ 12
     → getD b 0 0 ∷ getD b 1 0 ∷ getD b 2 0 ∷ getD b 3 0 ∷ getD b 4 0 ∷ getD b 5 0 ∷ getD b 6 0 ∷ getD b 7 0 ∷ getD b 8 0 ∷ getD b 9 0 ∷ getD b 10 0 ∷ getD b 11 0 ∷ [] ≡ b
 twelve b e = cc (drop-cons b 0 0 (omega arith), drop-cons b 1 0 (omega arith), drop-cons b 2 0 (omega arith), drop-cons b 3 0 (omega arith), drop-cons b 4 0 (omega arith), drop-cons b 5 0 (omega arith), drop-cons b 6 0 (omega arith), drop-cons b 7 0 (omega arith), drop-cons b 8 0 (omega arith), drop-cons b 9 0 (omega arith), drop-cons b 10 0 (omega arith), drop-cons b 11 0 (omega arith), drop-of-length-le b {i = 12} (omega arith))
 
 pub step-back : StepBack
-unfolding stepOf stepBytes
+unfolding stepOf encode
 step-back b p e c =
     let t₁ = both (ltb (getD b 6 0) 32 && eqb (getD b 9 0) 0 && eqb (getD b 10 0) 0) (eqb (getD b 11 0) 0) c in
     let t₂ = both (ltb (getD b 6 0) 32 && eqb (getD b 9 0) 0) (eqb (getD b 10 0) 0) (t₁ .0) in
@@ -118,7 +113,10 @@ step-back b p e c =
     let z₁₀ : getD b 10 0 ≡ 0 = eqb-true (getD b 10 0) 0 (t₂ .1) in
     let z₉ : getD b 9 0 ≡ 0 = eqb-true (getD b 9 0) 0 (t₃ .1) in
     let f = flags-back (getD b 6 0) (ltb-true (getD b 6 0) 32 (t₃ .0)) in
-    cc (twelve b e, word-back (getD b 0 0) (getD b 1 0) (p 0) (p 1), word-back (getD b 2 0) (getD b 3 0) (p 2) (p 3), word-back (getD b 4 0) (getD b 5 0) (p 4) (p 5))
+    let pc = word-back (getD b 0 0) (getD b 1 0) (p 0) (p 1) in
+    let cpu = word-back (getD b 2 0) (getD b 3 0) (p 2) (p 3) in
+    let dma = word-back (getD b 4 0) (getD b 5 0) (p 4) (p 5) in
+    cc (twelve b e, pc .0, pc .1, cpu .0, cpu .1, dma .0, dma .1)
 
 -- what `hex` answers is within the buffer
 pub hex-within : {b out out′ : List ℕ} {r : ℕ} → WritesHex b out out′ r → r ≤ length out′

@@ -5,9 +5,9 @@ use mathlib.Core.List.{List}
 use Prim.Native.Nat.{ℕ, _<_, _^_}
 use lib.ListN.{length}
 use Rattle.refusal.specs.Bytes.{Bytes}
-use Rattle.rules.specs.Steps.{stepOf, clean}
+use Rattle.rules.specs.Steps.{stepOf, clean, encode}
 use Rattle.codecs.specs.Numbers.{number, little}
-use Rattle.codecs.specs.Values.{stateOf, stateBytes, stepBytes}
+use Rattle.codecs.specs.Values.{stateOf, stateBytes}
 
 -- bytes are those of their number, and a number is that of its bytes
 abbrev pub BytesBack : Type 0
@@ -22,4 +22,4 @@ StateBack = (b : List ℕ) → Bytes b → length b ≡ 104 → stateBytes (stat
 
 -- the 12 bytes of a step with its zero bits and bytes zero are those that the step stands for
 abbrev pub StepBack : Type 0
-StepBack = (b : List ℕ) → Bytes b → length b ≡ 12 → clean b ≡ true → stepBytes (stepOf b) ≡ b
+StepBack = (b : List ℕ) → Bytes b → length b ≡ 12 → clean b ≡ true → encode (stepOf b) ≡ b

@@ -6,8 +6,9 @@ use lib.ListN.{length, take, drop}
 use Rattle.sha256.specs.declared.Sha.{Sha}
 use Rattle.rules.specs.declared.Monitor.{Monitor}
 use Rattle.rules.specs.declared.Step.{Step}
+use Rattle.rules.specs.Steps.{encode}
 use Rattle.codecs.specs.Numbers.{number, hexText}
-use Rattle.codecs.specs.Values.{stateOf, stateBytes, monitorOf, stepBytes}
+use Rattle.codecs.specs.Values.{stateOf, stateBytes, monitorOf}
 
 -- `number`: of the first eight bytes
 abbrev pub IsNumber : List ℕ → ℕ → Type 0
@@ -26,7 +27,7 @@ IsMonitor b r = r ≡ monitorOf b
 
 -- `step_bytes`
 abbrev pub IsStepBytes : Step → List ℕ → Type 0
-IsStepBytes s r = r ≡ stepBytes s
+IsStepBytes s r = r ≡ encode s
 
 -- `hex`: the digits, as many as fit; what stands behind them stays
 pub record WritesHex (b out out′ : List ℕ) (r : ℕ) : Type 0 where

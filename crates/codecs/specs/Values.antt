@@ -1,15 +1,13 @@
--- Values as bytes, as the program `calls` takes and prints them: a state of the running hash, a monitor, a step. Assumes nothing.
+-- Values as bytes, as the program `calls` takes and prints them: a state of the running hash, a monitor. Assumes nothing.
 use mathlib.Core.Bool.{not}
 use mathlib.Core.List.{List, [], _∷_, _++_}
-use Prim.Native.Nat.{ℕ, zero, suc, _+_}
+use Prim.Native.Nat.{ℕ, zero, suc}
 use lib.Dec.{eqb}
 use lib.ListN.{getD, take, drop}
-use Rattle.refusal.specs.Choice.{pick}
 use Rattle.sha256.specs.declared.Sha.{Sha}
 use Rattle.sha256.specs.Running.{blockOf}
 use Rattle.layout.specs.Layouts.{word}
 use Rattle.rules.specs.declared.Monitor.{Monitor}
-use Rattle.rules.specs.declared.Step.{Step}
 use Rattle.codecs.specs.Numbers.{number, little}
 
 -- k words of four bytes
@@ -38,13 +36,3 @@ monitorOf b = record {
   held = not (eqb (getD b 0 0) 0);
   last = word (getD b 1 0) (getD b 2 0);
 }
-
--- the flags of a step, from bit 0 on
-abbrev pub flags : Step → ℕ
-flags s = pick (s .reads) 1 0 + pick (s .writes) 2 0 + pick (s .interrupt) 4 0 + pick (s .active) 8 0 + pick (s .stores) 16 0
-
--- the 12 bytes that a step stands for
-unfoldable pub stepBytes : Step → List ℕ
-stepBytes s =
-    little 2 (s .pc) ++ little 2 (s .cpu) ++ little 2 (s .dma)
-    ++ flags s ∷ s .cpudata ∷ s .dmadata ∷ 0 ∷ 0 ∷ 0 ∷ []

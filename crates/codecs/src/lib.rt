@@ -9,6 +9,7 @@ ghost use lib.Seq.{sets};
 ghost use Rattle.io.specs.Digits as D;
 ghost use Rattle.refusal.specs.Choice as C;
 ghost use Rattle.sha256.specs.Running as R;
+ghost use Rattle.rules.specs.Steps as T;
 ghost use Rattle.codecs.specs.Numbers as N;
 ghost use Rattle.codecs.specs.Values as S;
 ghost use Rattle.codecs.specs.Promises as P;
@@ -162,7 +163,7 @@ fn flag(on: bool, bit: u8) -> u8
 }
 
 fn flags(s: Step) -> u8
-    ensures { λ r. ⌜ r ≡ S.flags s ⌝ }
+    ensures { λ r. ⌜ r ≡ T.flags s ⌝ }
 {
     flag(s.reads, 1)
         + flag(s.writes, 2)

@@ -19,7 +19,7 @@ use Rattle.refusal.specs.declared.Answer.{Answer}
 use Rattle.refusal.specs.declared.Answer.the-variants.{Done, Refused}
 use Rattle.refusal.proofs.Tests.{cases}
 use Rattle.refusal.proofs.First.{first-found, first-least, none-found}
-use Rattle.demands.specs.Demand1.{Condition, placed, plain, firstOf, Absent, First, None, Answers}
+use Rattle.demands.specs.Demand1.{Condition, placed, firstOf, Absent, First, None, Answers}
 
 -- ---- tests
 
@@ -100,9 +100,6 @@ same-more c cs h o n m p q (inr x) (inr y) = o .same n m p q (x .1) (y .1)
 pub once-placed : {n k : ℕ} {P : Type 0} {cs : List Condition} → Once cs → Once (placed n k P ∷ cs)
 once-placed {n} {k} {P} {cs} o = record { same = same-more (placed n k P) cs (λ p q x y. x .0 ∙ sym (y .0)) o }
 
-pub once-plain : {n : ℕ} {P : Type 0} {cs : List Condition} → Once cs → Once (plain n P ∷ cs)
-once-plain = once-placed
-
 -- of two first places neither is before the other
 one-place : (n m : ℕ) (P : ℕ → Type 0) (p q : ℕ) → firstOf n m P .At p → firstOf n m P .At q → p ≡ q
 one-place n m P p q x y =
@@ -150,10 +147,6 @@ pub follows-placed : (n k : ℕ) {t : Bool} {P : Type 0} {cs : List Condition} {
     → Tells t P → (t ≡ false → Follows cs rest) → Follows (placed n k P ∷ cs) (pick t (refusedAt n k) rest)
 follows-placed n k {t = true} {P} {cs} h f = follows-here (placed n k P) cs k (refl, h .yes refl)
 follows-placed n k {t = false} {P} {cs} {rest} h f = follows-later (placed n k P) cs rest (λ p x. h .no refl (x .1)) (f refl)
-
-pub follows-plain : (n : ℕ) {t : Bool} {P : Type 0} {cs : List Condition} {rest : Answer}
-    → Tells t P → (t ≡ false → Follows cs rest) → Follows (plain n P ∷ cs) (pick t (refusedAt n 0) rest)
-follows-plain n = follows-placed n 0
 
 follows-place : (n m k : ℕ) (u : Bool) (P : ℕ → Type 0) (cs : List Condition) (rest : Answer)
     → (u ≡ true → firstOf n m P .At k) → (u ≡ false → Absent (firstOf n m P)) → (u ≡ false → Follows cs rest)

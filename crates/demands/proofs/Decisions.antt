@@ -34,11 +34,11 @@ use Rattle.demands.specs.Demand2.{Decides, Decided, monitorBefore, cause
 
 -- ---- the cause is what the rules give, and nothing else is
 
-pub cause-decides : (l : Layout) (m : Monitor) (s : Step) → Decides l m s (cause l m s)
+cause-decides : (l : Layout) (m : Monitor) (s : Step) → Decides l m s (cause l m s)
 cause-decides l m s =
     record { away = held-away l m s; lowest = λ e k h t f. cause-lowest l m s k e h t f; none = λ e f. quiet-passes l m s e f }
 
-pub decides-cause : (l : Layout) (m : Monitor) (s : Step) (c : ℕ) → Decides l m s c → c ≡ cause l m s
+decides-cause : (l : Layout) (m : Monitor) (s : Step) (c : ℕ) → Decides l m s c → c ≡ cause l m s
 decides-cause l m s c d =
     let b = broken l m s in
     let n : ℕ = first 11 (numbered b) in
@@ -59,7 +59,7 @@ decided-once l m s c d p q = decides-cause l m s c p ∙ sym (decides-cause l m 
 -- ---- a trace
 
 -- what the monitor remembers in a run, whatever the memory
-pub monitor-before : (l : Layout) (t : ℕ → Step) (memory : List ℕ) (n : ℕ)
+monitor-before : (l : Layout) (t : ℕ → Step) (memory : List ℕ) (n : ℕ)
     → before l t (begin memory) n .monitor ≡ monitorBefore l t n
 unfolding before monitorBefore
 monitor-before l t memory zero = refl

@@ -58,17 +58,17 @@ use Rattle.runfile.specs.Contents.{LAYOUT, MEMORY, TRACE, offset, begins, entry
 use Rattle.runfile.specs.Segments.{startAt, sizeAt, place, reached, segments, segmentFails, firstWrong, segmentCheck}
 use Rattle.runfile.specs.Promises.{bodiesCheck, judgeCheck, fileTotals}
 use Rattle.demands.specs.Demand1 as claim
-use Rattle.demands.specs.Demand1.{Condition, plain, firstOf, In, Sized, SharedAddress, WrongSize, NotZero, EntryFails, SegmentFails}
+use Rattle.demands.specs.Demand1.{Condition, plain, firstOf, In, HasBytes, SharedAddress, WrongSize, NotZero, EntryFails, SegmentFails}
 use Rattle.demands.specs.Demand1.{memoryLength, layoutConditions, traceConditions, stepConditions, readerConditions, requestConditions, lengthConditions}
 use Rattle.demands.specs.Demand1.{attestCall, fileCall, Answers}
 use Rattle.demands.proofs.Conditions.{Tells, tells-lt, tells-ge, tells-le, tells-eq, tells-ne, tells-not, tells-or, tells-and}
-use Rattle.demands.proofs.Conditions.{tells-lacks, tells-as, tells-flat, tells-some, Once, once-none, once-placed, once-plain, once-first}
-use Rattle.demands.proofs.Conditions.{Follows, follows-none, follows-placed, follows-plain, follows-first, follows-then, Rows, answers-told, lent-kept}
+use Rattle.demands.proofs.Conditions.{tells-lacks, tells-as, tells-flat, tells-some, Once, once-none, once-placed, once-first}
+use Rattle.demands.proofs.Conditions.{Follows, follows-none, follows-placed, follows-first, follows-then, Rows, answers-told, lent-kept}
 
 -- ---- 2 to 6: the layout
 
 -- a size is told without a difference
-tells-sized : (r : Region) (n : ℕ) → 1 ≤ n → Tells (not (eqb (size r) n)) (Sized r n → ⊥)
+tells-sized : (r : Region) (n : ℕ) → 1 ≤ n → Tells (not (eqb (size r) n)) (HasBytes r n → ⊥)
 tells-sized r n h = tells-not (tells-as (λ e. omega arith) (λ e. omega arith) (tells-eq (size r) n))
 
 tells-small : (r : Region) (n : ℕ) → 1 ≤ n → Tells (ltb (size r) n) (r .hi + 1 < r .lo + n)
@@ -134,14 +134,14 @@ module _ (b : List ℕ) (forward : (k : ℕ) → k < 6 → reversed (region b k)
 follows-layout : (b : List ℕ) → Follows (layoutConditions b) (layoutCheck b)
 unfolding layoutCheck
 follows-layout b =
-    follows-plain 2 (tells-ne (length b) 24) (λ d.
+    follows-placed 2 0 (tells-ne (length b) 24) (λ d.
     follows-first 3 6 (λ k. reversed (region b k)) (λ k. tells-lt (region b k .hi) (region b k .lo)) (λ forward.
     follows-first 4 6 (λ k. wrongSize k (region b k)) (tells-wrong b) (λ e.
-    follows-plain 5 (tells-in (region b CR) 0) (λ f.
-    follows-plain 6 (tells-shared b forward) (λ g. follows-none)))))
+    follows-placed 5 0 (tells-in (region b CR) 0) (λ f.
+    follows-placed 6 0 (tells-shared b forward) (λ g. follows-none)))))
 
 once-layout : (b : List ℕ) (ds : List Condition) → Once ds → Once (layoutConditions b ++ ds)
-once-layout b ds o = once-plain (once-first (once-first (once-plain (once-plain o))))
+once-layout b ds o = once-placed (once-first (once-first (once-placed (once-placed o))))
 
 -- ---- 7 to 9: a trace, or one step
 
@@ -170,22 +170,19 @@ tells-length b = tells-or (tells-ne (length b % 12) 0) (tells-lt 4096 (count b))
 follows-trace : (b room : List ℕ) → Follows (traceConditions b room) (traceCheck b (length room))
 unfolding traceCheck
 follows-trace b room =
-    follows-plain 7 (tells-length b) (λ d.
-    follows-plain 8 (tells-lt (length room) (4 * count b)) (λ e.
+    follows-placed 7 0 (tells-length b) (λ d.
+    follows-placed 8 0 (tells-lt (length room) (4 * count b)) (λ e.
     follows-first 9 (count b) (unclean b) (tells-not-zero b) (λ f. follows-none)))
 
 once-trace : (b room : List ℕ) → Once (traceConditions b room)
-once-trace b room = once-plain (once-plain (once-first once-none))
+once-trace b room = once-placed (once-placed (once-first once-none))
 
 follows-step : (b room : List ℕ) → Follows (stepConditions b room) (stepCheck b (length room))
 unfolding stepCheck
 follows-step b room =
-    follows-plain 7 (tells-ne (length b) 12) (λ d.
-    follows-plain 8 (tells-lt (length room) 4) (λ e.
-    follows-plain 9 (tells-not-zero b 0) (λ f. follows-none)))
-
-once-step : (b room : List ℕ) → Once (stepConditions b room)
-once-step b room = once-plain (once-plain (once-plain once-none))
+    follows-placed 7 0 (tells-ne (length b) 12) (λ d.
+    follows-placed 8 0 (tells-lt (length room) 4) (λ e.
+    follows-placed 9 0 (tells-not-zero b 0) (λ f. follows-none)))
 
 -- ---- 7 and 9: a reader at a place
 
@@ -216,7 +213,7 @@ not-one false s = λ h. omega arith
 
 follows-reader : (b : List ℕ) (p : ℕ) → Follows (readerConditions b p) (readCheck b p)
 follows-reader b p =
-    follows-plain 7 (tells-length b) (λ d.
+    follows-placed 7 0 (tells-length b) (λ d.
     follows-placed 9 p
     (tells-and (tells-as (λ h. omega arith) (λ h. omega arith) (tells-not (tells-le (count b) p))) (tells-not-zero b p))
     (λ e. follows-none))
@@ -242,21 +239,18 @@ follows-request : (memory layout : List ℕ)
 unfolding requestCheck token
 follows-request memory layout =
     let l = layoutOf layout in
-    follows-plain 10 (tells-false (greater (challenge l memory) (counter l memory))) (λ d.
-    follows-plain 11 (tells-differ (hmac (key l memory) (challenge l memory)) (received l memory)) (λ e. follows-none))
-
-once-request : (memory layout : List ℕ) → Once (requestConditions memory layout)
-once-request memory layout = once-plain (once-plain once-none)
+    follows-placed 10 0 (tells-false (greater (challenge l memory) (counter l memory))) (λ d.
+    follows-placed 11 0 (tells-differ (hmac (key l memory) (challenge l memory)) (received l memory)) (λ e. follows-none))
 
 -- ---- 1, and the order of a call
 
 follows-call : (memory layout : List ℕ) (ds : List Condition) (rest : Answer) → Follows ds rest
     → Follows (memoryLength memory ∷ layoutConditions layout ++ ds) (callCheck memory layout rest)
 follows-call memory layout ds rest f =
-    follows-plain 1 (tells-ne (length memory) 65536) (λ d. follows-then (follows-layout layout) f)
+    follows-placed 1 0 (tells-ne (length memory) 65536) (λ d. follows-then (follows-layout layout) f)
 
 once-call : (memory layout : List ℕ) (ds : List Condition) → Once ds → Once (memoryLength memory ∷ layoutConditions layout ++ ds)
-once-call memory layout ds o = once-plain (once-layout layout ds o)
+once-call memory layout ds o = once-placed (once-layout layout ds o)
 
 follows-attest : (memory layout : List ℕ) → Follows (attestCall memory layout) (attestCheck memory layout)
 unfolding attestCheck
@@ -286,7 +280,7 @@ follows-file : (f : List ℕ)
     → Follows (plain 15 (49152 < length f) ∷ firstOf 13 3 (EntryFails f) ∷ []) (fileCheck f)
 unfolding fileCheck firstFailing
 follows-file f =
-    follows-plain 15 (tells-lt 49152 (length f)) (λ d.
+    follows-placed 15 0 (tells-lt 49152 (length f)) (λ d.
     rw (first-any 2 (ltb (length f) 24) (entryFails f))
     (follows-first 13 3 (λ k. ltb (length f) 24 || entryFails f k) (tells-entry f) (λ e. follows-none)))
 
@@ -318,7 +312,7 @@ follows-judge file memory room =
 -- ---- 12: lengths
 
 follows-length : {t : Bool} {P : Type 0} → Tells t P → Follows (lengthConditions P) (pick t (refusedAt 12 0) call.Done)
-follows-length h = follows-plain 12 h (λ e. follows-none)
+follows-length h = follows-placed 12 0 h (λ e. follows-none)
 
 -- the same as rows
 told-length : (t : Bool) → refusedIf t 12 ≡ told (pick t (refusedAt 12 0) call.Done) []
@@ -371,20 +365,20 @@ trace-answers memory layout trace room memory′ room′ r p =
 pub step-answers : claim.StepAnswers
 step-answers memory layout step m room memory′ room′ r p =
     answers-told _ (remembered (next (layoutOf layout) m (steps step 0))) r stepped-rows
-    (once-call memory layout _ (once-step step room))
+    (once-call memory layout _ (once-placed (once-placed (once-placed once-none))))
     (follows-call memory layout _ _ (follows-step step room))
     (λ e. omega arith) (p .answered)
     (λ q e. (p .memory-left ∙ lent-kept _ memory e, p .room-left ∙ lent-kept _ room e))
 
 pub attest-answers : claim.AttestAnswers
 attest-answers memory layout memory′ r p =
-    answers-told _ [] r call-rows (once-call memory layout _ (once-request memory layout)) (follows-attest memory layout)
+    answers-told _ [] r call-rows (once-call memory layout _ (once-placed (once-placed once-none))) (follows-attest memory layout)
     (λ e. omega arith) (p .answered ∙ told-nothing (attestCheck memory layout)) (λ q e. cc (p .memory-left ∙ lent-kept _ memory e))
 
 pub judge-answers : claim.JudgeAnswers
 judge-answers file memory room memory′ room′ r p =
     answers-told _ (values (fileTotals file)) r traced-rows
-    (once-plain (once-first (once-call memory (body file LAYOUT) _ (once-first (once-trace (body file TRACE) room)))))
+    (once-placed (once-first (once-call memory (body file LAYOUT) _ (once-first (once-trace (body file TRACE) room)))))
     (follows-judge file memory room)
     (λ e. omega arith) (p .answered)
     (λ q e. (p .memory-left ∙ lent-kept _ memory e, p .room-left ∙ lent-kept _ room e))
@@ -395,7 +389,7 @@ one-of-two false e = omega arith
 
 pub check-answers : claim.CheckAnswers
 check-answers k c given region r p =
-    answers-told Unit _ r verdict-rows (once-plain once-none)
+    answers-told Unit _ r verdict-rows (once-placed once-none)
     (follows-length
     (tells-flat (tells-flat (tells-flat
     (tells-or
@@ -409,7 +403,7 @@ check-answers k c given region r p =
 length-answers : {t : Bool} {P : Type 0} (r : Answer) (Kept : Type 0) → Tells t P → A.row r ≡ refusedIf t 12 → (t ≡ true → Kept)
     → Answers (lengthConditions P) (λ n p. r ≡ refusedAt n p) Kept
 length-answers {t} r Kept h e kept =
-    answers-told Kept [] r call-rows (once-plain once-none) (follows-length h) (λ d. omega arith) (e ∙ told-length t)
+    answers-told Kept [] r call-rows (once-placed once-none) (follows-length h) (λ d. omega arith) (e ∙ told-length t)
     (λ q d. kept (refused-by t q d))
 
 pub token-answers : claim.TokenAnswers
@@ -441,7 +435,7 @@ reader-answers h h′ r p =
     let b : List ℕ = now (h .trace) in
     let k : ℕ = h .place in
     let told-so : readRow r ≡ told (readCheck b k) (readValues b k) = p .advanced .answered ∙ read-told b k in
-    answers-told _ (readValues b k) r read-rows (once-plain (once-placed once-none)) (follows-reader b k)
+    answers-told _ (readValues b k) r read-rows (once-placed (once-placed once-none)) (follows-reader b k)
     (not-one (leb (count b) k) (steps b k)) told-so
     (λ q e.
     let place : h′ .place ≡ k = p .advanced .moved ∙ refused-place (readAt b k) (readCheck b k) q (readValues b k) k (read-told b k) e in

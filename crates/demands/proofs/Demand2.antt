@@ -3,9 +3,9 @@ use mathlib.Core.Path.{_≡_, sym, ap, subst, _∙_}
 use mathlib.Core.Bool.{true}
 use mathlib.Core.List.{List}
 use Prim.Native.Nat.{ℕ, _+_, _≤_}
+use native.Mathlib.Nat.{add-zero}
 use native.Mathlib.Omega.{arith}
-use lib.ListN.{length, getD, take, drop}
-use lib.Seq.{take-take}
+use lib.ListN.{length, getD}
 use Rattle.refusal.specs.Bytes.{Bytes}
 use Rattle.refusal.specs.Answers.{lent}
 use Rattle.refusal.specs.Settled.{row-settled}
@@ -20,23 +20,23 @@ use Rattle.layout.specs.Good.{Good}
 use Rattle.layout.specs.Calls.{memoryBytes}
 use Rattle.layout.proofs.Laws.{done-good, good-done, within-ends}
 use Rattle.layout.proofs.Calls.{call-rest}
-use Rattle.layout.proofs.Placed.{Placed, placed}
+use Rattle.layout.proofs.Placed.{placed}
 use Rattle.sha256.proofs.Laws.{gives-bytes}
 use Rattle.routine.specs.Routine.{reply, requestCheck}
-use Rattle.hmac.proofs.Laws.{length-hmac}
 use Rattle.routine.proofs.Laws.{token-is, reply-is, length-reply, request-old, request-forged}
 use Rattle.board.specs.Memory.{bytesAt, key, counter, attested, challenge, received, replyAt, replied}
-use Rattle.board.specs.Attestation.{attestCheck, due, accepted, storesTo}
+use Rattle.board.specs.Attestation.{attestCheck, accepted, storesTo}
 use Rattle.board.specs.Promises.{Attests}
 use Rattle.board.proofs.Stores.{read-same, read-inside}
 use Rattle.board.proofs.Laws as board
-use Rattle.board.proofs.Laws.{Allowed, done-allowed, allowed-done, attested-done, attested-refused, due-is}
+use Rattle.board.proofs.Laws.{done-allowed, allowed-done, attested-refused}
 use Rattle.station.specs.Lengths.{Lengths}
 use Rattle.station.specs.Promises.{checkUnfit, ChecksReply}
 use Rattle.station.proofs.Laws.{token-fits, lengths-fit, fit-lengths, said-yes, says-yes, said-no, says-no, said-refused, says-refused}
 use Rattle.demands.specs.Demand2 as claim
-use Rattle.demands.specs.Demand2.{Answers, SameRequest, Agrees, posted}
-use Rattle.demands.proofs.Posted.{posted-long, posted-challenge, posted-received, posted-key, posted-counter}
+use Rattle.demands.specs.Demand2.{SameRequest, Agrees, posted}
+use Rattle.demands.proofs.Accepts.{Accepts, accepts}
+use Rattle.demands.proofs.Posted.{request-is, request-done}
 
 -- ---- the routine, on the board
 
@@ -55,36 +55,8 @@ accepts-exactly memory layout memory′ r p =
           }),
     )
 
--- an accepted call
-module _ (memory layout memory′ : List ℕ) (b : Bytes layout) (p : Attests memory layout memory′ Done) where
-  allowed : Allowed memory layout
-  allowed = attested-done memory layout memory′ p .0
-
-  left : memory′ ≡ accepted (layoutOf layout) memory
-  left = attested-done memory layout memory′ p .1
-
-  lies : Placed (layoutOf layout)
-  lies = placed layout b (allowed .laid)
-
-  replied-due : replied (layoutOf layout) memory′ ≡ due (layoutOf layout) memory
-  replied-due =
-      ap (λ (m : List ℕ). replied (layoutOf layout) m) left ∙ board.accepted-reply (layoutOf layout) lies memory (allowed .long)
-
-  counted : counter (layoutOf layout) memory′ ≡ challenge (layoutOf layout) memory
-  counted =
-      ap (λ (m : List ℕ). counter (layoutOf layout) m) left ∙ board.accepted-counter (layoutOf layout) lies memory (allowed .long)
-
-  answers : Answers (layoutOf layout) memory memory′
-  answers =
-      record {
-        reply = replied-due ∙ due-is (layoutOf layout) memory ∙ reply-is _ _ _;
-        counted = counted;
-        kept = λ a h. ap (λ (m : List ℕ). getD m a 0) left ∙ board.accepted-else (layoutOf layout) lies memory (allowed .long) a h;
-        long = ap length left ∙ board.length-accepted (layoutOf layout) lies memory (allowed .long);
-      }
-
 pub answers-so : claim.AnswersSo
-answers-so = answers
+answers-so memory layout memory′ b p = accepts memory layout memory′ b p .served
 
 pub refuses-so : claim.RefusesSo
 refuses-so = attested-refused
@@ -117,18 +89,14 @@ stores-bytes memory layout memory′ r b p =
 
 -- challenge and token are read from MR's first 64 bytes
 module _ (l : Layout) (x y : List ℕ) (s : SameRequest l x y) where
+  same-mail : (k : ℕ) → k + 32 ≤ 64 → bytesAt (l .mr .lo + k) 32 x ≡ bytesAt (l .mr .lo + k) 32 y
+  same-mail k h = read-inside x (l .mr .lo) 64 k 32 h ∙ ap (bytesAt k 32) (s .mail) ∙ sym (read-inside y (l .mr .lo) 64 k 32 h)
+
   same-challenge : challenge l x ≡ challenge l y
-  same-challenge =
-      sym (take-take 32 64 (drop (l .mr .lo) x) (omega arith)) ∙ ap (take 32) (s .mail) ∙ take-take 32 64 (drop (l .mr .lo) y) (omega arith)
+  same-challenge = rw add-zero at (same-mail 0 (omega arith))
 
   same-received : received l x ≡ received l y
-  same-received =
-      read-inside x (l .mr .lo) 64 32 32 (omega arith)
-      ∙ ap (bytesAt 32 32) (s .mail)
-      ∙ sym (read-inside y (l .mr .lo) 64 32 32 (omega arith))
-
-  same-due : due l x ≡ due l y
-  same-due = due-is l x ∙ cc (s .key, same-challenge, s .attested) ∙ sym (due-is l y)
+  same-received = same-mail 32 (omega arith)
 
 same-check : (layout x y : List ℕ) → SameRequest (layoutOf layout) x y → attestCheck x layout ≡ attestCheck y layout
 unfolding attestCheck
@@ -139,10 +107,13 @@ same-check layout x y s =
 module _ (layout x y x′ y′ : List ℕ) (b : Bytes layout) (s : SameRequest (layoutOf layout) x y)
     (p : Attests x layout x′ Done) (q : Attests y layout y′ Done) where
   same-replied : replied (layoutOf layout) x′ ≡ replied (layoutOf layout) y′
-  same-replied = replied-due x layout x′ b p ∙ same-due (layoutOf layout) x y s ∙ sym (replied-due y layout y′ b q)
+  same-replied =
+      answers-so x layout x′ b p .reply
+      ∙ cc (s .key, same-challenge (layoutOf layout) x y s, s .attested)
+      ∙ sym (answers-so y layout y′ b q .reply)
 
   same-counter : counter (layoutOf layout) x′ ≡ counter (layoutOf layout) y′
-  same-counter = counted x layout x′ b p ∙ same-challenge (layoutOf layout) x y s ∙ sym (counted y layout y′ b q)
+  same-counter = answers-so x layout x′ b p .counted ∙ same-challenge (layoutOf layout) x y s ∙ sym (answers-so y layout y′ b q .counted)
 
   same-stored : (a : ℕ) → storesTo (layoutOf layout) a ≡ true → getD x′ a 0 ≡ getD y′ a 0
   same-stored a e =
@@ -201,17 +172,19 @@ module _ (memory layout memory′ : List ℕ) (b : Bytes layout) (p : Attests me
   abbrev l : Layout
   l = layoutOf layout
 
+  call : Accepts memory layout memory′
+  call = accepts memory layout memory′ b p
+
   replied-is : replied l memory′ ≡ reply (key l memory) (challenge l memory) (attested l memory)
-  replied-is = replied-due memory layout memory′ b p ∙ due-is l memory
+  replied-is = call .served .reply ∙ sym (reply-is _ _ _)
 
   fit : (expected : List ℕ) → 1 ≤ length expected → length expected ≤ 65536
       → Lengths (key l memory) (challenge l memory) (replied l memory′) expected
   fit expected some most =
-      let n = allowed memory layout memory′ b p .long in
-      let w = lies memory layout memory′ b p in
+      let n = call .allowed .long in
       record {
-        key = board.length-key l w memory n;
-        challenge = board.length-challenge l w memory n;
+        key = board.length-key l (call .lies) memory n;
+        challenge = board.length-challenge l (call .lies) memory n;
         reply = ap length replied-is ∙ length-reply _ _ _;
         some = some;
         most = most;
@@ -219,8 +192,8 @@ module _ (memory layout memory′ : List ℕ) (b : Bytes layout) (p : Attests me
 
   agrees : Agrees l memory memory′
   agrees =
-      let w = lies memory layout memory′ b p in
-      let n = board.length-attested l w memory (allowed memory layout memory′ b p .long) in
+      let w = call .lies in
+      let n = board.length-attested l w memory (call .allowed .long) in
       record {
         same = λ v q. says-yes v q (fit (attested l memory) (omega (arith, n, w .region)) (omega (arith, n, w .region-in))) replied-is;
         other = λ expected v some most q. (
@@ -248,10 +221,9 @@ request-served memory layout c memory′ made r b long good lc fresh makes p =
     let w = placed layout b (good-done layout good) in
     let m = posted l c (made .bytes) memory in
     let t = gives-bytes makes (token-fits (key l memory) c (board.length-key l w memory long) lc) in
-    let lt : length (made .bytes) ≡ 32 = ap length (t ∙ token-is (key l memory) c) ∙ length-hmac (key l memory) c in
-    let ec = posted-challenge l w memory c (made .bytes) long lc lt in
-    let ek = posted-key l w memory c (made .bytes) long lc lt in
-    let en = posted-counter l w memory c (made .bytes) long lc lt in
-    let d = board-and-station m layout memory′ made r b (posted-long l c (made .bytes) memory ∙ long) good
-    (rw (ec, en) fresh) (rw (ec, ek) makes) (posted-received l w memory c (made .bytes) long lc lt) p in
-    (d .0, counted m layout memory′ b (subst (Attests m layout memory′) (d .0) p) ∙ ec, d .1)
+    let d = row-settled r (attestCheck m layout) (p .answered) ∙ request-done layout b good memory c (made .bytes) long lc t fresh in
+    let q = subst (Attests m layout memory′) d p in (
+      d,
+      answers-so m layout memory′ b q .counted ∙ request-is layout b good memory c (made .bytes) long lc t,
+      agrees m layout memory′ b q,
+    )

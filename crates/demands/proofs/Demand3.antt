@@ -1,23 +1,21 @@
 -- Demand 3 for runs: once for a step from any monitor, then by induction. Assumes nothing.
 use mathlib.Core.Path.{_≡_, refl, sym, ap, subst, _∙_}
-use mathlib.Core.Bool.{Bool, true, false}
+use mathlib.Core.Bool.{Bool, true, false, and-false}
 use mathlib.Core.List.{List}
 use Prim.Native.Nat.{ℕ, zero, suc, _<_}
 use native.Mathlib.Omega.{arith}
 use lib.Dec.{eqb}
 use borrow.Author.Tests.{eqb-true, not-false}
 use Rattle.refusal.specs.Choice.{pick}
-use Rattle.refusal.proofs.Tests.{cases, both}
 use Rattle.layout.specs.declared.Layout.{Layout}
-use Rattle.layout.specs.Regions.{within}
 use Rattle.rules.specs.declared.Step.{Step}
 use Rattle.rules.specs.declared.Monitor.{Monitor}
-use Rattle.rules.specs.Rules.{cpuWrites, cause, resets, start, next}
+use Rattle.rules.specs.Rules.{cause, resets, start, next}
 use Rattle.effects.specs.Effects.{cpuExposed, dmaExposed, exposing, answer, stored, storing, written}
 use Rattle.monitor.specs.Runs.{State, before, said, answers, resetting}
 use Rattle.demands.specs.Demand3.{Agree, scratch, with, blank, SameSteps, Unseen, Demand3Runs, FromAny}
 use Rattle.demands.proofs.Exposed.{cpu-outside, dma-outside}
-use Rattle.demands.proofs.Memories.{pick-agree, stored-agree, stored-scratch}
+use Rattle.demands.proofs.Memories.{pick-agree, stored-agree}
 
 -- ---- one step in two memories that agree
 
@@ -43,19 +41,13 @@ module _ (l : Layout) (m : Monitor) (s : Step) (x y : List ℕ) (g : Agree l x y
 
 -- ---- two steps that differ at most in a byte for the scratch
 
-in-scratch : (l : Layout) (s : Step) → scratch l s ≡ true → within (l .xs) (s .cpu) ≡ true
-in-scratch l s h = both (s .writes) (within (l .xs) (s .cpu)) (both (within (l .cr) (s .pc)) (cpuWrites (l .xs) s) h .1) .1
-
 module _ (l : Layout) (s : Step) (v : ℕ) (f : scratch l s ≡ false → s .cpudata ≡ v) (x y : List ℕ) (g : Agree l x y) where
   cpu-stored : Agree l (stored l (s .writes) (s .cpu) (s .cpudata) x) (stored l (s .writes) (s .cpu) v y)
-  cpu-stored =
-      cases (scratch l s)
-      (λ h. stored-scratch l x y g (s .cpu) (s .writes) (s .cpudata) v (in-scratch l s h))
-      (λ h. rw (sym (f h)) (stored-agree l x y g (s .cpu) (s .writes) (s .cpudata)))
+  cpu-stored = stored-agree l x y g (s .cpu) (s .cpudata) v (λ o. f (simp (o, and-false))) (s .writes)
 
   storing-with : Agree l (storing l s x) (storing l (with s v) y)
   unfolding storing
-  storing-with = stored-agree l _ _ cpu-stored (s .dma) _ (s .dmadata)
+  storing-with = stored-agree l _ _ cpu-stored (s .dma) (s .dmadata) (s .dmadata) (λ o. refl) _
 
 module _ (l : Layout) (s t : Step) (e : blank l s ≡ blank l t) where
   cause-same : (m : Monitor) → cause l m s ≡ cause l m t

@@ -6,7 +6,7 @@ use mathlib.Core.List.{List}
 use Prim.Native.Nat.{ℕ, zero, suc, _≤_, _<_}
 use native.Mathlib.Omega.{arith}
 use lib.Dec.{eqb, ltb}
-use lib.ListN.{length, getD}
+use lib.ListN.{length}
 use borrow.Author.Tests.{eqb-true, eqb-false, ltb-true, ltb-false}
 use Rattle.refusal.specs.Bytes.{Bytes}
 use Rattle.refusal.specs.Answers.{lent}
@@ -19,28 +19,25 @@ use Rattle.layout.specs.Regions.{within}
 use Rattle.layout.specs.Layouts.{layoutOf}
 use Rattle.layout.specs.Calls.{memoryBytes, callCheck}
 use Rattle.layout.specs.Good.{Good}
-use Rattle.layout.proofs.Laws.{good-done}
-use Rattle.layout.proofs.Placed.{Placed, placed}
 use Rattle.rules.specs.declared.Step.{Step}
 use Rattle.effects.specs.Effects.{written}
 use Rattle.monitor.specs.Runs.{State, count, steps, begin, before, memoryAfter}
 use Rattle.monitor.specs.Promises.{traceCheck, stepCheck}
 use Rattle.routine.specs.Strings.{greater}
 use Rattle.routine.specs.Routine.{token}
-use Rattle.routine.proofs.Laws.{token-is}
-use Rattle.hmac.proofs.Laws.{length-hmac}
 use Rattle.routine.proofs.Order.{greater-irreflexive, greater-trans, weight-greater}
 use Rattle.board.specs.Memory.{key, counter, challenge}
 use Rattle.board.specs.Attestation.{attestCheck, accepted}
 use Rattle.board.specs.Promises.{Attests}
 use Rattle.board.proofs.Stores.{bytes-read}
-use Rattle.board.proofs.Laws.{region-agrees, length-challenge, length-accepted, accepted-counter, allowed-done, attested-done, attested-refused}
+use Rattle.board.proofs.Laws.{region-agrees, length-challenge, allowed-done, attested-done, attested-refused}
 use Rattle.demands.specs.Traces.{remembers, byteAt}
 use Rattle.demands.specs.Demand2.{posted}
 use Rattle.demands.specs.History as claim
 use Rattle.demands.specs.History.{Event, attest, trace, change, Keeps, storesCounter, Happens, History, Accepted, counterAt}
-use Rattle.demands.proofs.Posted.{posted-long, posted-challenge, posted-received, posted-code, posted-key, posted-counter}
-use Rattle.demands.proofs.Traces.{length-kept, rom, guarded}
+use Rattle.demands.proofs.Accepts.{accepts}
+use Rattle.demands.proofs.Posted.{request-is, request-keeps, request-done}
+use Rattle.demands.proofs.Traces.{length-kept, stays-through, rom, guarded}
 
 -- ---- a trace
 
@@ -54,15 +51,8 @@ counter-stays l t x n a w e =
           clash (storesCounter l (remembers l t x n) (t n)) (simp (c .passes, c .inside, c .writes, c .address, w)) e
     ]
 
-counter-kept : (l : Layout) (t : ℕ → Step) (x : State) (n a : ℕ) → within (l .ctr) a ≡ true
-    → ((i : ℕ) → i < n → storesCounter l (remembers l t x i) (t i) ≡ false) → byteAt l t x n a ≡ getD (x .memory) a 0
-unfolding before
-counter-kept l t x zero a w f = refl
-counter-kept l t x (suc n) a w f =
-    counter-stays l t x n a w (f n (omega arith)) ∙ counter-kept l t x n a w (λ i h. f i (omega arith))
-
 -- a run in which the attestation code leaves CTR alone keeps CR, KR and CTR
-pub run-keeps : (l : Layout) (t : ℕ → Step) (x : State) (n : ℕ)
+run-keeps : (l : Layout) (t : ℕ → Step) (x : State) (n : ℕ)
     → ((i : ℕ) → i < n → storesCounter l (remembers l t x i) (t i) ≡ false) → Keeps l (x .memory) (before l t x n .memory)
 run-keeps l t x n f =
     let y = before l t x n .memory in
@@ -71,7 +61,7 @@ run-keeps l t x n f =
       long = e;
       code = region-agrees (l .cr) y (x .memory) e (λ a w. rom l t x n a (simp w));
       key = region-agrees (l .kr) y (x .memory) e (λ a w. rom l t x n a (simp (w, or-true)));
-      counter = region-agrees (l .ctr) y (x .memory) e (λ a w. counter-kept l t x n a w f);
+      counter = region-agrees (l .ctr) y (x .memory) e (λ a w. stays-through l t x n a (λ i h. counter-stays l t x i a w (f i h)));
     }
 
 -- a call that keeps them where it is not refused keeps them
@@ -104,14 +94,11 @@ record Advances (l : Layout) (x y : List ℕ) : Type 0 where
 
 advances : (layout x y : List ℕ) → Bytes layout → Attests x layout y Done → Advances (layoutOf layout) x y
 advances layout x y h p =
-    let l = layoutOf layout in
-    let d = attested-done x layout y p in
-    let a = d .0 in
-    let q = placed layout h (a .laid) in
+    let c = accepts x layout y h p in
     record {
-      fresh = a .fresh;
-      counted = ap (λ (m : List ℕ). counter l m) (d .1) ∙ accepted-counter l q x (a .long);
-      long = length-challenge l q x (a .long);
+      fresh = c .allowed .fresh;
+      counted = c .served .counted;
+      long = length-challenge (layoutOf layout) (c .lies) x (c .allowed .long);
     }
 
 -- b is a or greater
@@ -211,82 +198,54 @@ later-is-larger h i j c d a b = (
 
 -- ---- a history with two requests
 
--- a request in the mailbox is a change that keeps CR, KR and CTR
-posted-keeps : (l : Layout) (p : Placed l) (memory c t : List ℕ) → length memory ≡ memoryBytes → length c ≡ 32 → length t ≡ 32
-    → Keeps l memory (posted l c t memory)
-posted-keeps l p memory c t long lc lt = record {
-  long = posted-long l c t memory;
-  code = posted-code l p memory c t long lc lt;
-  key = posted-key l p memory c t long lc lt;
-  counter = posted-counter l p memory c t long lc lt;
-}
+-- a request for c in the mailbox, a change that keeps CR, KR and CTR: it is accepted
+record Round (layout memory c : List ℕ) : Type 0 where
+  request : List ℕ
+  after : List ℕ
+  keeps : Keeps (layoutOf layout) memory request
+  asks : c ≡ challenge (layoutOf layout) request
+  serves : Attests request layout after Done
+  counted : counter (layoutOf layout) after ≡ c
+  long : length after ≡ memoryBytes
 
--- the one for c: it is accepted
-module _ (layout : List ℕ) (b : Bytes layout) (good : Good layout) (memory c : List ℕ) (long : length memory ≡ memoryBytes)
-    (lc : length c ≡ 32) (fresh : greater c (counter (layoutOf layout) memory) ≡ true) where
-  abbrev l : Layout
-  l = layoutOf layout
-
-  abbrev request : List ℕ
-  request = posted l c (token (key l memory) c) memory
-
-  lies : Placed l
-  lies = placed layout b (good-done layout good)
-
-  token-long : length (token (key l memory) c) ≡ 32
-  token-long = ap length (token-is (key l memory) c) ∙ length-hmac (key l memory) c
-
-  request-kept : Keeps l memory request
-  request-kept = posted-keeps l lies memory c (token (key l memory) c) long lc token-long
-
-  request-is : challenge l request ≡ c
-  request-is = posted-challenge l lies memory c (token (key l memory) c) long lc token-long
-
-  request-long : length request ≡ memoryBytes
-  request-long = posted-long l c (token (key l memory) c) memory ∙ long
-
-  request-done : attestCheck request layout ≡ Done
-  request-done =
-      allowed-done request layout (record {
-        long = request-long;
-        laid = good-done layout good;
-        fresh = rw (request-is, request-kept .counter) fresh;
-        genuine =
-            rw (request-is, request-kept .key) (sym (posted-received l lies memory c (token (key l memory) c) long lc token-long));
-      })
-
-  served : Attests request layout (accepted l request) Done
-  served = record { answered = simp request-done; memory-left = simp request-done }
-
-  counter-after : counter l (accepted l request) ≡ c
-  counter-after = accepted-counter l lies request request-long ∙ request-is
-
-  long-after : length (accepted l request) ≡ memoryBytes
-  long-after = length-accepted l lies request request-long ∙ request-long
+round : (layout : List ℕ) → Bytes layout → Good layout → (memory c : List ℕ) → length memory ≡ memoryBytes → length c ≡ 32
+    → greater c (counter (layoutOf layout) memory) ≡ true → Round layout memory c
+round layout b good memory c long lc fresh =
+    let l = layoutOf layout in
+    let t = token (key l memory) c in
+    let m = posted l c t memory in
+    let keeps = request-keeps layout b good memory c t long lc refl in
+    let is = request-is layout b good memory c t long lc refl in
+    let done = request-done layout b good memory c t long lc refl fresh in
+    let serves : Attests m layout (accepted l m) Done = record { answered = simp done; memory-left = simp done } in
+    let s = accepts m layout (accepted l m) b serves .served in
+    record {
+      request = m;
+      after = accepted l m;
+      keeps = keeps;
+      asks = sym is;
+      serves = serves;
+      counted = s .counted ∙ is;
+      long = s .long ∙ keeps .long ∙ long;
+    }
 
 pub both-served : claim.BothServed
 both-served memory layout c d b long good lc ld fresh rises =
-    let l = layoutOf layout in
-    let x = request layout b good memory c long lc fresh in
-    let y = accepted l x in
-    let e : counter l y ≡ c = counter-after layout b good memory c long lc fresh in
-    let n : length y ≡ memoryBytes = long-after layout b good memory c long lc fresh in
-    let g : greater d (counter l y) ≡ true = rw e rises in
-    let z = request layout b good y d n ld g in
-    let m : ℕ → List ℕ = memories memory x y z (accepted l z) in (
+    let p = round layout b good memory c long lc fresh in
+    let q = round layout b good (p .after) d (p .long) ld (rw (p .counted) rises) in
+    let m : ℕ → List ℕ = memories memory (p .request) (p .after) (q .request) (q .after) in (
       record {
         layout = layout;
         layoutBytes = b;
         n = 4;
         events = events;
         memories = m;
-        happens = λ i h. four m i h (request-kept layout b good memory c long lc fresh) (served layout b good memory c long lc fresh)
-            (request-kept layout b good y d n ld g) (served layout b good y d n ld g);
+        happens = λ i h. four m i h (p .keeps) (p .serves) (q .keeps) (q .serves);
       },
       refl,
       refl,
-      record { happened = omega arith; event = refl; request = sym (request-is layout b good memory c long lc fresh) },
-      record { happened = omega arith; event = refl; request = sym (request-is layout b good y d n ld g) },
+      record { happened = omega arith; event = refl; request = p .asks },
+      record { happened = omega arith; event = refl; request = q .asks },
     )
   where
     events : ℕ → Event

@@ -4,6 +4,7 @@ pub mod Runs
 pub mod Traces
 pub mod Vrased
 pub mod Decisions
+pub mod Accepts
 pub mod Posted
 pub mod Conditions
 pub mod Demand1

@@ -7,6 +7,7 @@ use native.Mathlib.Omega.{arith}
 use lib.ListN.{length, getD, set, length-set}
 use lib.Seq.{getD-set-other}
 use Rattle.refusal.specs.Choice.{pick}
+use Rattle.refusal.proofs.Tests.{cases}
 use Rattle.layout.specs.declared.Layout.{Layout}
 use Rattle.layout.specs.Regions.{within, outside}
 use Rattle.effects.specs.Effects.{lands, stored}
@@ -27,29 +28,16 @@ getD-set-both (p ∷ x) (q ∷ y) zero v (suc k) n e = e
 getD-set-both (p ∷ x) (q ∷ y) (suc a) v zero n e = e
 getD-set-both (p ∷ x) (q ∷ y) (suc a) v (suc k) n e = getD-set-both x y a v k (omega arith) e
 
-module _ (l : Layout) (x y : List ℕ) (g : Agree l x y) (a : ℕ) where
-  -- the same byte at any address
-  set-agree : (v : ℕ) → Agree l (set x a v) (set y a v)
-  set-agree v = record {
-    long = simp length-set (g .long);
-    same = λ k kr xs. getD-set-both x y a v k (g .long) (g .same k kr xs);
-  }
+-- a byte at an address, the same in both unless the address is in XS
+module _ (l : Layout) (x y : List ℕ) (g : Agree l x y) (a v w : ℕ) (f : within (l .xs) a ≡ false → v ≡ w) where
+  set-same : (k : ℕ) → outside (l .kr) k ≡ true → outside (l .xs) k ≡ true → getD (set x a v) k 0 ≡ getD (set y a w) k 0
+  set-same k kr xs =
+      cases (within (l .xs) a)
+      (λ h.
+      let e : k ≡ a → ⊥ = λ e. false≢true (simp (e, h) at xs) in
+      getD-set-other x a k v 0 e ∙ g .same k kr xs ∙ sym (getD-set-other y a k w 0 e))
+      (λ h. rw (← f h) (getD-set-both x y a v k (g .long) (g .same k kr xs)))
 
-  -- any two bytes at an address in XS
-  elsewhere : (k : ℕ) → within (l .xs) a ≡ true → outside (l .xs) k ≡ true → k ≡ a → ⊥
-  elsewhere k h xs e = false≢true (simp (e, h) at xs)
-
-  set-scratch : (v w : ℕ) → within (l .xs) a ≡ true → Agree l (set x a v) (set y a w)
-  set-scratch v w h = record {
-    long = simp length-set (g .long);
-    same =
-        λ k kr xs. getD-set-other x a k v 0 (elsewhere k h xs) ∙ g .same k kr xs ∙ sym (getD-set-other y a k w 0 (elsewhere k h xs));
-  }
-
-  pub stored-agree : (on : Bool) (v : ℕ) → Agree l (stored l on a v x) (stored l on a v y)
+  pub stored-agree : (on : Bool) → Agree l (stored l on a v x) (stored l on a w y)
   unfolding stored
-  stored-agree on v = pick-agree l (lands l on a) (set-agree v) g
-
-  pub stored-scratch : (on : Bool) (v w : ℕ) → within (l .xs) a ≡ true → Agree l (stored l on a v x) (stored l on a w y)
-  unfolding stored
-  stored-scratch on v w h = pick-agree l (lands l on a) (set-scratch v w h) g
+  stored-agree on = pick-agree l (lands l on a) (record { long = simp length-set (g .long); same = set-same }) g

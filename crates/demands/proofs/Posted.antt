@@ -1,51 +1,85 @@
--- A request put into the mailbox: it is read there, and CR, KR and CTR are as before. Assumes nothing.
-use mathlib.Core.Path.{_≡_, _∙_}
+-- A request put into the mailbox: it is read there, CR, KR and CTR are as before, and a token for a challenge above CTR is accepted.
+-- Assumes nothing.
+use mathlib.Core.Path.{_≡_, refl, sym, ap, _∙_}
 use mathlib.Core.Logic.{_⊎_, inl, inr}
+use mathlib.Core.Bool.{true}
 use mathlib.Core.List.{List}
 use Prim.Native.Nat.{ℕ, _+_, _≤_}
 use native.Mathlib.Omega.{arith}
 use lib.ListN.{length}
 use lib.Seq.{sets, length-sets}
+use Rattle.refusal.specs.Bytes.{Bytes}
+use Rattle.refusal.specs.declared.Answer.the-variants.{Done}
+use Rattle.layout.specs.declared.Region.{Region}
 use Rattle.layout.specs.declared.Layout.{Layout}
+use Rattle.layout.specs.Layouts.{layoutOf}
 use Rattle.layout.specs.Regions.{size}
 use Rattle.layout.specs.Calls.{memoryBytes}
-use Rattle.layout.proofs.Placed.{Placed}
-use Rattle.board.specs.Memory.{bytesAt, bytesOf, key, counter, challenge, received}
+use Rattle.layout.specs.Good.{Good}
+use Rattle.layout.proofs.Laws.{good-done}
+use Rattle.layout.proofs.Placed.{Placed, placed}
+use Rattle.hmac.proofs.Laws.{length-hmac}
+use Rattle.routine.specs.Strings.{greater}
+use Rattle.routine.specs.Routine.{token}
+use Rattle.routine.proofs.Laws.{token-is}
+use Rattle.board.specs.Memory.{bytesOf, key, counter, challenge, received}
+use Rattle.board.specs.Attestation.{attestCheck}
 use Rattle.board.proofs.Stores.{stored-there, stored-apart}
+use Rattle.board.proofs.Laws.{allowed-done}
 use Rattle.demands.specs.Demand2.{posted}
+use Rattle.demands.specs.History.{Keeps}
 
-pub posted-long : (l : Layout) (c t memory : List ℕ) → length (posted l c t memory) ≡ length memory
-posted-long l c t memory =
-    length-sets (sets memory (l .mr .lo) c) (l .mr .lo + 32) t ∙ length-sets memory (l .mr .lo) c
+module _ (layout : List ℕ) (b : Bytes layout) (good : Good layout) (memory c t : List ℕ) (long : length memory ≡ memoryBytes)
+    (lc : length c ≡ 32) (is : t ≡ token (key (layoutOf layout) memory) c) where
+  abbrev l : Layout
+  l = layoutOf layout
 
-module _ (l : Layout) (p : Placed l) (memory c t : List ℕ) (long : length memory ≡ memoryBytes) (lc : length c ≡ 32) (lt : length t ≡ 32) where
+  -- the challenge alone, and then the token
   abbrev first : List ℕ
   first = sets memory (l .mr .lo) c
 
-  pub posted-challenge : challenge l (posted l c t memory) ≡ c
-  posted-challenge =
+  abbrev request : List ℕ
+  request = posted l c t memory
+
+  lies : Placed l
+  lies = placed layout b (good-done layout good)
+
+  token-long : length t ≡ 32
+  token-long = ap length (is ∙ token-is (key l memory) c) ∙ length-hmac (key l memory) c
+
+  request-long : length request ≡ length memory
+  request-long = length-sets first (l .mr .lo + 32) t ∙ length-sets memory (l .mr .lo) c
+
+  pub request-is : challenge l request ≡ c
+  request-is =
+      let n = token-long in
       stored-apart first (l .mr .lo + 32) t (l .mr .lo) 32 (inl (omega arith))
-      ∙ stored-there memory (l .mr .lo) 32 c lc (omega (arith, p .mail-in))
+      ∙ stored-there memory (l .mr .lo) 32 c lc (omega (arith, lies .mail-in))
 
-  pub posted-received : received l (posted l c t memory) ≡ t
-  posted-received =
-      stored-there first (l .mr .lo + 32) 32 t lt (omega (arith, length-sets memory (l .mr .lo) c, p .mail-in))
+  request-received : received l request ≡ t
+  request-received =
+      stored-there first (l .mr .lo + 32) 32 t token-long (omega (arith, length-sets memory (l .mr .lo) c, lies .mail-in))
 
-  -- bytes that lie apart from MR's first 96 stay
-  posted-apart : (a n : ℕ) → (l .mr .lo + 96 ≤ a) ⊎ (a + n ≤ l .mr .lo) → bytesAt a n (posted l c t memory) ≡ bytesAt a n memory
-  posted-apart a n o =
-      stored-apart first (l .mr .lo + 32) t a n (elim o [ inl h ↦ inr (omega arith) | inr h ↦ inl (omega arith) ])
-      ∙ stored-apart memory (l .mr .lo) c a n (elim o [ inl h ↦ inr (omega arith) | inr h ↦ inl (omega arith) ])
+  -- a region of n bytes that lies apart from MR's first 96 stays
+  request-apart : (r : Region) (n : ℕ) → size r ≡ n → (l .mr .lo + 96 ≤ r .lo) ⊎ (r .lo + n ≤ l .mr .lo) → bytesOf r request ≡ bytesOf r memory
+  request-apart r n s o =
+      let m = token-long in
+      stored-apart first (l .mr .lo + 32) t (r .lo) (size r) (elim o [ inl h ↦ inr (omega arith) | inr h ↦ inl (omega arith) ])
+      ∙ stored-apart memory (l .mr .lo) c (r .lo) (size r) (elim o [ inl h ↦ inr (omega arith) | inr h ↦ inl (omega arith) ])
 
-  pub posted-code : bytesOf (l .cr) (posted l c t memory) ≡ bytesOf (l .cr) memory
-  posted-code = posted-apart (l .cr .lo) (size (l .cr)) (p .code-apart)
+  pub request-keeps : Keeps l memory request
+  request-keeps = record {
+    long = request-long;
+    code = request-apart (l .cr) (size (l .cr)) refl (lies .code-apart);
+    key = request-apart (l .kr) 64 (lies .key) (lies .key-apart);
+    counter = request-apart (l .ctr) 32 (lies .counter) (lies .apart);
+  }
 
-  pub posted-key : key l (posted l c t memory) ≡ key l memory
-  posted-key =
-      let s = p .key in
-      posted-apart (l .kr .lo) (size (l .kr)) (elim (p .key-apart) [ inl h ↦ inl h | inr h ↦ inr (omega arith) ])
-
-  pub posted-counter : counter l (posted l c t memory) ≡ counter l memory
-  posted-counter =
-      let s = p .counter in
-      posted-apart (l .ctr .lo) (size (l .ctr)) (elim (p .apart) [ inl h ↦ inl h | inr h ↦ inr (omega arith) ])
+  pub request-done : greater c (counter l memory) ≡ true → attestCheck request layout ≡ Done
+  request-done fresh =
+      allowed-done request layout (record {
+        long = request-long ∙ long;
+        laid = good-done layout good;
+        fresh = rw (request-is, request-keeps .counter) fresh;
+        genuine = rw (request-is, request-keeps .key) (sym (request-received ∙ is));
+      })

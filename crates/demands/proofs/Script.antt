@@ -2,13 +2,13 @@
 use mathlib.Core.Path.{_≡_, refl, ap, _∙_}
 use mathlib.Core.Logic.{_≢_}
 use mathlib.Core.Bool.{Bool, true, false}
-use mathlib.Core.List.{List, _∷_}
-use Prim.Native.Nat.{ℕ, zero, suc, _+_, _-_, _*_, _/_, _%_, _^_, _≤_, _<_}
+use mathlib.Core.List.{List, [], _∷_}
+use Prim.Native.Nat.{ℕ, zero, suc, _+_, _-_, _*_, _/_, _%_, _≤_, _<_}
 use native.Mathlib.Nat.{not-suc-le-zero}
 use native.Mathlib.Omega.{arith}
 use lib.Dec.{eqb, ltb}
-use lib.ListN.{length, getD, take, drop, replicate, length-append, length-drop}
-use lib.Seq.{drop-at, take-append-le, drop-append-le}
+use lib.ListN.{length, getD, take, length-append}
+use lib.Seq.{drop-at}
 use borrow.Author.Tests.{eqb-true, eqb-false, ltb-true, ltb-false, lt-ltb, le-ltb}
 use Rattle.refusal.specs.Bytes.{Bytes}
 use Rattle.refusal.specs.Choice.{pick}
@@ -17,15 +17,15 @@ use Rattle.refusal.proofs.Bytes.{bytes-cons, bytes-append}
 use Rattle.refusal.proofs.Tests.{cases}
 use Rattle.refusal.proofs.First.{found-none}
 use Rattle.layout.specs.declared.Layout.{Layout}
-use Rattle.layout.specs.Layouts.{layoutOf, layoutCheck, word}
+use Rattle.layout.specs.Layouts.{layoutOf}
 use Rattle.layout.specs.Calls.{memoryBytes, callCheck}
 use Rattle.layout.proofs.Laws.{zero-outside}
 use Rattle.layout.proofs.Calls.{call-rest}
-use Rattle.layout.proofs.Placed.{Placed, placed}
 use Rattle.rules.specs.declared.Step.{Step}
 use Rattle.rules.specs.declared.Monitor.{Monitor}
-use Rattle.rules.specs.Steps.{bit, stepOf, clean}
+use Rattle.rules.specs.Steps.{stepOf, flags, encode, Addressed}
 use Rattle.rules.specs.Rules.{cause, start, next}
+use Rattle.rules.proofs.Laws.{flags-most, tells-step, clean-encode}
 use Rattle.effects.specs.Effects.{stored, storing, written}
 use Rattle.monitor.specs.declared.Traced.{Traced}
 use Rattle.monitor.specs.declared.Traced.the-variants as traced
@@ -36,78 +36,27 @@ use Rattle.board.specs.Memory.{challenge, replyAt}
 use Rattle.board.specs.Attestation.{due}
 use Rattle.board.specs.Promises.{Attests}
 use Rattle.board.proofs.Stores.{bytes-read}
-use Rattle.board.proofs.Laws.{bytes-due, attested-done}
+use Rattle.board.proofs.Laws.{bytes-due}
 use Rattle.demands.specs.Traces.{remembers, causeAt, InParts}
 use Rattle.demands.specs.Marked.{at}
 use Rattle.demands.specs.Script as claim
 use Rattle.demands.specs.Visit.{Free, Plays, storeAt, storeByte, played}
-use Rattle.demands.specs.Script.{flags, encode, encoded, scripted, script}
+use Rattle.demands.specs.Script.{encoded, scripted, script}
 use Rattle.monitor.proofs.Runs.{Alike, alike}
+use Rattle.demands.proofs.Accepts.{Accepts, accepts}
 use Rattle.demands.proofs.Runs.{in-parts}
-use Rattle.demands.proofs.Traces.{release}
+use Rattle.demands.proofs.Traces.{joined-before, release}
 use Rattle.demands.proofs.Visit.{visit-passes, leaves-freely, visit-attests, can-be-played}
-
--- ---- a step's bytes
-
-flag-most : (f : Bool) → pick {A = ℕ} f 1 0 ≤ 1
-flag-most true = omega arith
-flag-most false = omega arith
-
-flag-is : (f : Bool) → eqb (pick f 1 0) 1 ≡ f
-flag-is true = refl
-flag-is false = refl
-
--- five digits of 0 and 1
-record Digits (a b c d e f : ℕ) : Type 0 where
-  d0 : f / 2 ^ 0 % 2 ≡ a
-  d1 : f / 2 ^ 1 % 2 ≡ b
-  d2 : f / 2 ^ 2 % 2 ≡ c
-  d3 : f / 2 ^ 3 % 2 ≡ d
-  d4 : f / 2 ^ 4 % 2 ≡ e
-  most : f < 32
-
-digits : (a b c d e : ℕ) → a ≤ 1 → b ≤ 1 → c ≤ 1 → d ≤ 1 → e ≤ 1 → Digits a b c d e (a + 2 * b + 4 * c + 8 * d + 16 * e)
-digits a b c d e ha hb hc hd he = record {
-  d0 = omega arith;
-  d1 = omega arith;
-  d2 = omega arith;
-  d3 = omega arith;
-  d4 = omega arith;
-  most = omega arith;
-}
-
-flag-digits : (s : Step)
-    → Digits (pick (s .reads) 1 0) (pick (s .writes) 1 0) (pick (s .interrupt) 1 0) (pick (s .active) 1 0) (pick (s .stores) 1 0) (flags s)
-flag-digits s =
-    digits (pick (s .reads) 1 0) (pick (s .writes) 1 0) (pick (s .interrupt) 1 0) (pick (s .active) 1 0) (pick (s .stores) 1 0)
-    (flag-most (s .reads)) (flag-most (s .writes)) (flag-most (s .interrupt)) (flag-most (s .active)) (flag-most (s .stores))
-
-word-of : (a : ℕ) → word (a % 256) (a / 256) ≡ a
-word-of a = omega arith
-
-decoded : (s : Step) → stepOf (encode s) ≡ s
-unfolding stepOf
-decoded s =
-    let d = flag-digits s in
-    let r : bit 0 (flags s) ≡ s .reads = ap (λ (n : ℕ). eqb n 1) (d .d0) ∙ flag-is (s .reads) in
-    let w : bit 1 (flags s) ≡ s .writes = ap (λ (n : ℕ). eqb n 1) (d .d1) ∙ flag-is (s .writes) in
-    let i : bit 2 (flags s) ≡ s .interrupt = ap (λ (n : ℕ). eqb n 1) (d .d2) ∙ flag-is (s .interrupt) in
-    let a : bit 3 (flags s) ≡ s .active = ap (λ (n : ℕ). eqb n 1) (d .d3) ∙ flag-is (s .active) in
-    let t : bit 4 (flags s) ≡ s .stores = ap (λ (n : ℕ). eqb n 1) (d .d4) ∙ flag-is (s .stores) in
-    simp (word-of (s .pc), word-of (s .cpu), word-of (s .dma), r, w, i, a, t)
-
-clean-encode : (s : Step) → clean (encode s) ≡ true
-clean-encode s = simp (lt-ltb (flags s) 32 (flag-digits s .most))
 
 -- ---- a trace's bytes
 
 length-encoded : (t : ℕ → Step) (n : ℕ) → length (encoded t n) ≡ stepSize * n
-unfolding encoded
+unfolding encoded encode
 length-encoded t zero = refl
 length-encoded t (suc n) = omega (arith, length-append (encoded t n) (encode (t n)), length-encoded t n)
 
 encoded-bytes : (t : ℕ → Step) (n i : ℕ) → i < n → stepBytes (encoded t n) i ≡ encode (t i)
-unfolding encoded
+unfolding encoded encode
 encoded-bytes t zero i h = absurd (not-suc-le-zero h)
 encoded-bytes t (suc n) i h =
     let b = encoded t n in
@@ -116,12 +65,10 @@ encoded-bytes t (suc n) i h =
     (λ e. rw (eqb-true i n e) (ap (take stepSize) (drop-at b (encode (t n)) (stepSize * n) q)))
     (λ e.
     let g : i ≢ n = eqb-false i n e in
-    let p : stepSize * i ≤ length b = omega arith in
-    let w : stepSize ≤ length (drop (stepSize * i) b) = simp length-drop (omega arith) in
-    rw (drop-append-le, take-append-le) (encoded-bytes t n i (omega arith)))
+    joined-before b (encode (t n)) n i q (omega arith) ∙ encoded-bytes t n i (omega arith))
 
 pub tells-steps : claim.TellsSteps
-tells-steps t n i h = ap stepOf (encoded-bytes t n i h) ∙ decoded (t i)
+tells-steps t n i h k = ap stepOf (encoded-bytes t n i h) ∙ tells-step (t i) k
 
 encoded-fits : (t : ℕ → Step) (n room : ℕ) → n ≤ mostSteps → answerSize * n ≤ room → traceCheck (encoded t n) room ≡ Done
 unfolding traceCheck
@@ -131,6 +78,21 @@ encoded-fits t n room h r =
     let w : length (encoded t n) % stepSize ≡ 0 = omega arith in
     let u : (i : ℕ) → i < n → unclean (encoded t n) i ≡ false = λ i k. simp (encoded-bytes t n i k, clean-encode (t i)) in
     simp (c, w, le-ltb mostSteps n h, le-ltb room (answerSize * n) r, found-none n (unclean (encoded t n)) u)
+
+-- ---- the trace's addresses
+
+code-small : (b : List ℕ) → Bytes b → (layoutOf b .cr .lo < memoryBytes) × (layoutOf b .cr .hi < memoryBytes)
+unfolding layoutOf
+code-small b h =
+    let p = h 0 in
+    let q = h 1 in
+    let r = h 2 in
+    let s = h 3 in
+    (omega arith, omega arith)
+
+small-pick : (t : Bool) (a b n : ℕ) → (t ≡ true → a < n) → (t ≡ false → b < n) → pick t a b < n
+small-pick true a b n f g = f refl
+small-pick false a b n f g = g refl
 
 -- ---- attestation as a trace
 
@@ -175,8 +137,27 @@ module _ (memory layout memory′ : List ℕ) (h : Bytes layout) (a : Attests me
   abbrev rest : ℕ → Step
   rest i = all (suc i)
 
-  laid : layoutCheck layout ≡ Done
-  laid = attested-done memory layout memory′ a .0 .laid
+  call : Accepts memory layout memory′
+  call = accepts memory layout memory′ h a
+
+  address : (i : ℕ) → i < 64 → storeAt ly i < memoryBytes
+  address i e =
+      small-pick (ltb i 32) (replyAt ly + i) (ly .ctr .lo + (i - 32)) memoryBytes
+      (λ t. omega (arith, ltb-true i 32 t, call .lies .mail-in)) (λ t. omega (arith, ltb-false i 32 t, call .lies .counter-in))
+
+  addressed : (i : ℕ) → Addressed (all i)
+  addressed zero = record { pc = omega arith; cpu = omega arith; dma = omega arith }
+  addressed (suc i) =
+      cases (ltb i 64)
+      (λ t.
+      let g = address i (ltb-true i 64 t) in
+      simp t (record {
+        pc =
+            small-pick (eqb i 63) (ly .cr .hi) (ly .cr .lo) memoryBytes (λ u. code-small layout h .1) (λ u. code-small layout h .0);
+        cpu = g;
+        dma = g;
+      }))
+      (λ t. simp t (record { pc = omega arith; cpu = omega arith; dma = omega arith }))
 
   released-first : causeAt ly all (begin memory) 0 ≡ 0
   unfolding before
@@ -187,7 +168,7 @@ module _ (memory layout memory′ : List ℕ) (h : Bytes layout) (a : Attests me
   after-first = simp (released-first, keeps-memory ly start (at 0) memory released-first refl refl)
 
   free-first : Free ly (released memory)
-  free-first = record { unheld = refl; outside = zero-outside layout laid }
+  free-first = record { unheld = refl; outside = zero-outside layout (call .allowed .laid) }
 
   plays-rest : Plays ly memory rest
   plays-rest =
@@ -200,7 +181,7 @@ module _ (memory layout memory′ : List ℕ) (h : Bytes layout) (a : Attests me
       (λ e. visit-passes ly rest (released memory) 64 free-first (plays-rest .visit) i (ltb-true i 64 e))
       (λ e.
       let q : i ≡ 64 = omega (arith, ltb-false i 64 e) in
-      rw q (leaves-freely ly rest (released memory) 64 free-first (plays-rest .visit) (zero-outside layout laid) refl refl refl))
+      rw q (leaves-freely ly rest (released memory) 64 free-first (plays-rest .visit) (zero-outside layout (call .allowed .laid)) refl refl refl))
 
   rest-leaves : before ly rest (released memory) 65 .memory ≡ memory′
   unfolding before
@@ -230,14 +211,14 @@ module _ (memory layout memory′ : List ℕ) (h : Bytes layout) (a : Attests me
     b = script ly memory
 
     same : Alike ly (steps b) all (begin memory) 66
-    same = alike ly (steps b) all (begin memory) 66 (tells-steps all 66)
+    same = alike ly (steps b) all (begin memory) 66 (λ i e. tells-steps all 66 i e (addressed i))
 
     counts : count b ≡ 66
     counts = omega (arith, length-encoded all 66)
 
     checked : callCheck memory layout (traceCheck b (length room)) ≡ Done
     checked =
-        call-rest memory layout (traceCheck b (length room)) (attested-done memory layout memory′ a .0 .long) laid
+        call-rest memory layout (traceCheck b (length room)) (call .allowed .long) (call .allowed .laid)
         ∙ encoded-fits all 66 (length room) (omega arith) k
 
     judged : r ≡ traced.Judged (record { steps = 66; resets = 0 })
@@ -259,93 +240,40 @@ trace-attests memory layout memory′ room memory″ room′ r h a c k =
 
 -- ---- the trace is bytes
 
--- a step of 16-bit addresses and of bytes
-record Small (s : Step) : Type 0 where
-  pc : s .pc < memoryBytes
-  cpu : s .cpu < memoryBytes
-  dma : s .dma < memoryBytes
-  cpudata : s .cpudata < 256
-  dmadata : s .dmadata < 256
-
-halves : (n : ℕ) (v : List ℕ) → n < memoryBytes → Bytes v → Bytes (n % 256 ∷ n / 256 ∷ v)
-halves n v h k = bytes-cons (n % 256) (n / 256 ∷ v) (omega arith) (bytes-cons (n / 256) v (omega arith) k)
-
-zeros : (n : ℕ) → Bytes (replicate n 0)
-zeros zero i = omega arith
-zeros (suc n) i = bytes-cons 0 (replicate n 0) (omega arith) (zeros n) i
-
-bytes-encode : (s : Step) → Small s → Bytes (encode s)
-bytes-encode s h =
-    let f = flag-digits s .most in
-    let z : List ℕ = replicate 3 0 in
+bytes-encode : (s : Step) → s .cpudata < 256 → s .dmadata < 256 → Bytes (encode s)
+unfolding encode
+bytes-encode s hc hd =
+    let z : List ℕ = 0 ∷ 0 ∷ 0 ∷ [] in
     let tail : List ℕ = flags s ∷ s .cpudata ∷ s .dmadata ∷ z in
-    let dma : List ℕ = s .dma % 256 ∷ s .dma / 256 ∷ tail in
-    let cpu : List ℕ = s .cpu % 256 ∷ s .cpu / 256 ∷ dma in
-    halves (s .pc) cpu (h .pc)
-    (halves (s .cpu) dma (h .cpu)
-    (halves (s .dma) tail (h .dma)
-    (bytes-cons (flags s) (s .cpudata ∷ s .dmadata ∷ z) (omega arith)
-    (bytes-cons (s .cpudata) (s .dmadata ∷ z) (h .cpudata) (bytes-cons (s .dmadata) z (h .dmadata) (zeros 3))))))
+    let dma : List ℕ = s .dma % 256 ∷ s .dma / 256 % 256 ∷ tail in
+    let cpu : List ℕ = s .cpu % 256 ∷ s .cpu / 256 % 256 ∷ dma in
+    halves (s .pc) cpu
+    (halves (s .cpu) dma
+    (halves (s .dma) tail
+    (bytes-cons (flags s) (s .cpudata ∷ s .dmadata ∷ z) (omega (arith, flags-most s))
+    (bytes-cons (s .cpudata) (s .dmadata ∷ z) hc (bytes-cons (s .dmadata) z hd zeros)))))
+  where
+    halves : (n : ℕ) (v : List ℕ) → Bytes v → Bytes (n % 256 ∷ n / 256 % 256 ∷ v)
+    halves n v k = bytes-cons (n % 256) (n / 256 % 256 ∷ v) (omega arith) (bytes-cons (n / 256 % 256) v (omega arith) k)
 
-bytes-encoded : (t : ℕ → Step) (n : ℕ) → ((i : ℕ) → i < n → Small (t i)) → Bytes (encoded t n)
+    zeros : Bytes (0 ∷ 0 ∷ 0 ∷ [])
+    zeros = bytes-cons 0 (0 ∷ 0 ∷ []) (omega arith) (bytes-cons 0 (0 ∷ []) (omega arith) (bytes-cons 0 [] (omega arith) (λ i. omega arith)))
+
+bytes-encoded : (t : ℕ → Step) (n : ℕ) → ((i : ℕ) → (t i .cpudata < 256) × (t i .dmadata < 256)) → Bytes (encoded t n)
 unfolding encoded
 bytes-encoded t zero f i = omega arith
 bytes-encoded t (suc n) f i =
-    bytes-append (encoded t n) (encode (t n)) (bytes-encoded t n (λ j h. f j (omega arith))) (bytes-encode (t n) (f n (omega arith))) i
+    bytes-append (encoded t n) (encode (t n)) (bytes-encoded t n f) (bytes-encode (t n) (f n .0) (f n .1)) i
 
-code-small : (b : List ℕ) → Bytes b → (layoutOf b .cr .lo < memoryBytes) × (layoutOf b .cr .hi < memoryBytes)
-unfolding layoutOf
-code-small b h =
-    let p = h 0 in
-    let q = h 1 in
-    let r = h 2 in
-    let s = h 3 in
-    (omega arith, omega arith)
+small-byte : (l : Layout) (memory : List ℕ) → Bytes memory → (i : ℕ) → storeByte l memory i < 256
+small-byte l memory k i =
+    small-pick (ltb i 32) (getD (due l memory) i 0) (getD (challenge l memory) (i - 32) 0) 256
+    (λ t. bytes-due l memory i) (λ t. bytes-read memory (l .mr .lo) 32 k (i - 32))
 
-small-pick : (t : Bool) (a b n : ℕ) → (t ≡ true → a < n) → (t ≡ false → b < n) → pick t a b < n
-small-pick true a b n f g = f refl
-small-pick false a b n f g = g refl
-
-at-small : Small (at 0)
-at-small = record { pc = omega arith; cpu = omega arith; dma = omega arith; cpudata = omega arith; dmadata = omega arith }
-
--- an accepted call's addresses and bytes are small
-module _ (memory layout memory′ : List ℕ) (h : Bytes layout) (k : Bytes memory) (a : Attests memory layout memory′ Done) where
-  abbrev lb : Layout
-  lb = layoutOf layout
-
-  lies : Placed lb
-  lies = placed layout h (attested-done memory layout memory′ a .0 .laid)
-
-  address : (i : ℕ) → i < 64 → storeAt lb i < memoryBytes
-  address i e =
-      small-pick (ltb i 32) (replyAt lb + i) (lb .ctr .lo + (i - 32)) memoryBytes
-      (λ t. omega (arith, ltb-true i 32 t, lies .mail-in)) (λ t. omega (arith, ltb-false i 32 t, lies .counter-in))
-
-  byte : (i : ℕ) → i < 64 → storeByte lb memory i < 256
-  byte i e =
-      small-pick (ltb i 32) (getD (due lb memory) i 0) (getD (challenge lb memory) (i - 32) 0) 256 (λ t. bytes-due lb memory i)
-      (λ t.
-      bytes-read memory (lb .mr .lo) 32 k (i - 32))
-
-  each : (i : ℕ) → i < 66 → Small (scripted lb memory i)
-  each zero e = at-small
-  each (suc i) e =
-      cases (ltb i 64)
-      (λ t.
-      let g = ltb-true i 64 t in
-      simp t (record {
-        pc =
-            small-pick (eqb i 63) (lb .cr .hi) (lb .cr .lo) memoryBytes (λ u. code-small layout h .1) (λ u. code-small layout h .0);
-        cpu = address i g;
-        dma = address i g;
-        cpudata = byte i g;
-        dmadata = omega arith;
-      }))
-      (λ t. simp t at-small)
-
-  script-small : Bytes (script lb memory)
-  script-small = bytes-encoded (scripted lb memory) 66 each
+small-data : (l : Layout) (memory : List ℕ) → Bytes memory → (i : ℕ) → (scripted l memory i .cpudata < 256) × (scripted l memory i .dmadata < 256)
+small-data l memory k zero = (omega arith, omega arith)
+small-data l memory k (suc i) =
+    cases (ltb i 64) (λ t. simp t (small-byte l memory k i, omega arith)) (λ t. simp t (omega arith, omega arith))
 
 pub script-bytes : claim.ScriptBytes
-script-bytes = script-small
+script-bytes memory layout memory′ h k a = bytes-encoded (scripted (layoutOf layout) memory) 66 (small-data (layoutOf layout) memory k)

@@ -1,7 +1,7 @@
 -- The claims about every trace hold. Assumes nothing.
 use mathlib.Core.Path.{_≡_, refl, sym, ap, subst, _∙_}
 use mathlib.Core.Logic.{_≢_, inl, inr}
-use mathlib.Core.Bool.{Bool, true, false, not, _&&_, _||_, or-true, and-false}
+use mathlib.Core.Bool.{Bool, true, false, not, _&&_, or-true, and-false}
 use mathlib.Core.List.{List, _++_}
 use Prim.Native.Nat.{ℕ, zero, suc, _+_, _*_, _≤_, _<_}
 use native.Mathlib.Nat.{not-suc-le-zero}
@@ -22,8 +22,8 @@ use Rattle.layout.specs.Regions.{within, outside}
 use Rattle.rules.specs.declared.Step.{Step}
 use Rattle.rules.specs.declared.Monitor.{Monitor}
 use Rattle.rules.specs.Steps.{bit, stepOf}
-use Rattle.rules.specs.Rules.{cause, resets, next}
-use Rattle.rules.proofs.Laws.{held-away, reset-cause, passes-cause, passes-only, inside-unheld}
+use Rattle.rules.specs.Rules.{writable, cause, resets, next}
+use Rattle.rules.proofs.Laws.{held-away, reset-cause, passes-cause, passes-only, inside-unheld, rule-6}
 use Rattle.monitor.specs.declared.Stepped.{Stepped}
 use Rattle.monitor.specs.declared.Stepped.the-variants as stepped
 use Rattle.monitor.specs.declared.Totals.{Totals}
@@ -36,7 +36,7 @@ use Rattle.monitor.proofs.Laws.{length-before, answer-at}
 use Rattle.monitor.proofs.Checks.{traced-judged, Fitting, trace-passed, one-step, one-passes}
 use Rattle.monitor.specs.Promises.{traceCheck, stepCheck, Traces}
 use Rattle.demands.specs.Traces as claim
-use Rattle.demands.specs.Traces.{crOrKr, ctrOrXs, remembers, causeAt, resetsAt}
+use Rattle.demands.specs.Traces.{crOrKr, ctrOrXs, remembers, causeAt, resetsAt, byteAt}
 use Rattle.demands.proofs.Runs.{in-parts}
 use Rattle.demands.proofs.Exposed.{cpu-outside, dma-outside}
 
@@ -62,10 +62,16 @@ step-rom l m s memory a e =
       | inr (inr d) ↦ lands-not-rom l (s .active && s .stores) (s .dma) (d .lands) (rw (d .address) e)
     ]
 
+-- a byte that each step leaves as it is
+pub stays-through : (l : Layout) (t : ℕ → Step) (x : State) (n a : ℕ)
+    → ((i : ℕ) → i < n → byteAt l t x (suc i) a ≡ byteAt l t x i a) → byteAt l t x n a ≡ getD (x .memory) a 0
+unfolding before
+stays-through l t x zero a f = refl
+stays-through l t x (suc n) a f = f n (omega arith) ∙ stays-through l t x n a (λ i h. f i (omega arith))
+
 pub rom : claim.Rom
 unfolding before
-rom l t x zero a e = refl
-rom l t x (suc n) a e = step-rom l (remembers l t x n) (t n) (before l t x n .memory) a e ∙ rom l t x n a e
+rom l t x n a e = stays-through l t x n a (λ i h. step-rom l (remembers l t x i) (t i) (before l t x i .memory) a e)
 
 lands-on : (l : Layout) (on : Bool) (a : ℕ) → lands l on a ≡ true → on ≡ true
 lands-on l on a e = both on (outside (l .cr) a) (both (on && outside (l .cr) a) (outside (l .kr) a) e .0) .0
@@ -109,11 +115,6 @@ guarded l t x n a e =
           clash (ctrOrXs l (s .dma)) (rw (d .address) e) (dma-apart l m s (d .passes) on)
     ]
 
-one-of : (a b c : Bool) → (not a && not b && not c) ≡ false → (a || b || c) ≡ true
-one-of true b c e = refl
-one-of false true c e = refl
-one-of false false c e = not-false c e
-
 pub runs-alone : claim.RunsAlone
 runs-alone l t x n z r i =
     let m = remembers l t x n in
@@ -124,9 +125,8 @@ runs-alone l t x n z r i =
       calm = passes-only l m s r 4 (omega arith) (s .interrupt) (λ h. simp (u, h, i));
       idle = passes-only l m s r 9 (omega arith) (s .active) (λ h. simp (u, h, i));
       kept = λ w.
-          one-of (within (l .xs) (s .cpu)) (within (l .mr) (s .cpu)) (within (l .ctr) (s .cpu))
-          (passes-only l m s r 6 (omega arith) (outside (l .xs) (s .cpu) && outside (l .mr) (s .cpu) && outside (l .ctr) (s .cpu))
-          (λ h. simp (u, i, w, h)));
+          not-false (writable l (s .cpu))
+          (passes-only l m s r 6 (omega arith) (not (writable l (s .cpu))) (λ h. simp u (rule-6 l s ∙ simp (i, w, h))));
     }
 
 pub guarded-alone : claim.GuardedAlone
@@ -150,48 +150,48 @@ bits-of false true = (refl, refl)
 bits-of false false = (refl, refl)
 
 -- what an answer tells of the two bytes
-record Tells (l : Layout) (m : Monitor) (s : Step) (memory : List ℕ) : Type 0 where
+record Exposes (l : Layout) (m : Monitor) (s : Step) (memory : List ℕ) : Type 0 where
   cpu-bit : bit 0 (answer l m s memory .exposed) ≡ (not (resets l m s) && cpuExposed l s)
   dma-bit : bit 1 (answer l m s memory .exposed) ≡ (not (resets l m s) && dmaExposed s)
   cpu-byte : answer l m s memory .cpu ≡ pick (not (resets l m s) && cpuExposed l s) (getD memory (s .cpu) 0) 0
   dma-byte : answer l m s memory .dma ≡ pick (not (resets l m s) && dmaExposed s) (getD memory (s .dma) 0) 0
 
-tells : (l : Layout) (m : Monitor) (s : Step) (memory : List ℕ) → Tells l m s memory
+exposes : (l : Layout) (m : Monitor) (s : Step) (memory : List ℕ) → Exposes l m s memory
 unfolding answer exposing
-tells l m s memory =
+exposes l m s memory =
     let b = bits-of (cpuExposed l s) (dmaExposed s) in
     cases (resets l m s)
     (λ e. record { cpu-bit = simp e; dma-bit = simp e; cpu-byte = simp e; dma-byte = simp e })
     (λ e. record { cpu-bit = simp e (b .0); dma-bit = simp e (b .1); cpu-byte = simp e; dma-byte = simp e })
 
-tells-at : (l : Layout) (t : ℕ → Step) (x : State) (n : ℕ) → Tells l (remembers l t x n) (t n) (before l t x n .memory)
-tells-at l t x n = tells l (remembers l t x n) (t n) (before l t x n .memory)
+exposes-at : (l : Layout) (t : ℕ → Step) (x : State) (n : ℕ) → Exposes l (remembers l t x n) (t n) (before l t x n .memory)
+exposes-at l t x n = exposes l (remembers l t x n) (t n) (before l t x n .memory)
 
 pub cpu-exposed : claim.CpuExposed
 cpu-exposed l t x n e =
     let m = remembers l t x n in
     let s = t n in
-    let b = sym (tells-at l t x n .cpu-bit) ∙ e in
+    let b = sym (exposes-at l t x n .cpu-bit) ∙ e in
     let h = both (not (resets l m s)) (cpuExposed l s) b in
     let r = not-true (resets l m s) (h .0) in
     let c = both (s .reads) (outside (l .cr) (s .pc)) (h .1) in
     let o = cpu-outside l m s (passes-cause l m s r) (h .1) in
-    (c .0, c .1, record { passes = r; key = o .0; scratch = o .1; byte = simp b at (tells-at l t x n .cpu-byte) })
+    (c .0, c .1, record { passes = r; key = o .0; scratch = o .1; byte = simp b at (exposes-at l t x n .cpu-byte) })
 
 pub dma-exposed : claim.DmaExposed
 dma-exposed l t x n e =
     let m = remembers l t x n in
     let s = t n in
-    let b = sym (tells-at l t x n .dma-bit) ∙ e in
+    let b = sym (exposes-at l t x n .dma-bit) ∙ e in
     let h = both (not (resets l m s)) (dmaExposed s) b in
     let r = not-true (resets l m s) (h .0) in
     let c = both (s .active) (not (s .stores)) (h .1) in
     let o = dma-outside l m s (passes-cause l m s r) (h .1) in
-    (c .0, not-true (s .stores) (c .1), record { passes = r; key = o .0; scratch = o .1; byte = simp b at (tells-at l t x n .dma-byte) })
+    (c .0, not-true (s .stores) (c .1), record { passes = r; key = o .0; scratch = o .1; byte = simp b at (exposes-at l t x n .dma-byte) })
 
 pub not-exposed : claim.NotExposed
 not-exposed l t x n =
-    let a = tells-at l t x n in
+    let a = exposes-at l t x n in
     (λ e. simp (sym (a .cpu-bit) ∙ e) at (a .cpu-byte), λ e. simp (sym (a .dma-bit) ∙ e) at (a .dma-byte))
 
 -- ---- hold
@@ -222,13 +222,16 @@ release l t x n h p r w d = simp (h, p, r, w, d, and-false)
 pub parts : claim.Parts
 parts l t x n k = in-parts l t t (λ i. t (n + i)) x n k (λ i h. refl) (λ i h. refl)
 
+pub joined-before : (b c : List ℕ) (n i : ℕ) → length b ≡ stepSize * n → i < n → stepBytes (b ++ c) i ≡ stepBytes b i
+joined-before b c n i e h =
+    let p : stepSize * i ≤ length b = omega arith in
+    let q : stepSize ≤ length (drop (stepSize * i) b) = simp length-drop (omega arith) in
+    rw (drop-append-le, take-append-le)
+
 pub joins : claim.Joins
 joins b c n e =
     record {
-      first = λ i h.
-          let p : stepSize * i ≤ length b = omega arith in
-          let q : stepSize ≤ length (drop (stepSize * i) b) = simp length-drop (omega arith) in
-          ap stepOf (rw (drop-append-le, take-append-le));
+      first = λ i h. ap stepOf (joined-before b c n i e h);
       second = λ i.
           let p : stepSize * (n + i) ≡ length b + stepSize * i = omega arith in
           ap stepOf (rw (p, drop-append-add));

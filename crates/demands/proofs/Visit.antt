@@ -1,13 +1,13 @@
 -- The claims about visits to the attestation code hold. Assumes nothing.
 use mathlib.Core.Path.{_≡_, refl, sym, ap, _∙_}
 use mathlib.Core.Logic.{_⊎_, inl, inr}
-use mathlib.Core.Bool.{Bool, true, false, not, _&&_, _||_, and-false, or-true}
+use mathlib.Core.Bool.{true, false, not, _||_, and-false, or-true}
 use mathlib.Core.List.{List}
 use Prim.Native.Nat.{ℕ, zero, suc, _+_, _-_, _≤_, _<_}
 use native.Mathlib.Nat.{not-suc-le-zero}
 use native.Mathlib.Omega.{arith}
 use lib.Dec.{eqb, ltb}
-use lib.ListN.{getD, take, set}
+use lib.ListN.{length, getD, take, set}
 use lib.Seq.{sets, take-all, getD-set-same}
 use borrow.Author.Tests.{eq-eqb, ltb-true, ltb-false, lt-ltb, le-ltb}
 use Rattle.refusal.specs.Bytes.{Bytes}
@@ -17,53 +17,37 @@ use Rattle.layout.specs.declared.Layout.{Layout}
 use Rattle.layout.specs.Regions.{within}
 use Rattle.layout.specs.Layouts.{CR, KR, MR, CTR, region, layoutOf}
 use Rattle.layout.specs.Good.{Good}
-use Rattle.layout.proofs.Laws.{done-good, ends-within, elsewhere}
-use Rattle.layout.proofs.Placed.{Placed, placed}
+use Rattle.layout.proofs.Laws.{ends-within, elsewhere}
+use Rattle.layout.proofs.Placed.{Placed}
 use Rattle.rules.specs.declared.Step.{Step}
 use Rattle.rules.specs.declared.Monitor.{Monitor}
-use Rattle.rules.specs.Rules.{cause, next}
+use Rattle.rules.specs.Rules.{writable, rule15, cause, next}
 use Rattle.rules.proofs.Laws.{unbroken-passes}
+use Rattle.rules.proofs.None.{visit-lowest}
 use Rattle.effects.specs.Effects.{stored, storing, written}
 use Rattle.monitor.specs.Runs.{State, before}
 use Rattle.board.specs.Memory.{challenge, replyAt}
 use Rattle.board.specs.Attestation.{due, accepted}
 use Rattle.board.specs.Promises.{Attests}
 use Rattle.board.proofs.Stores.{sets-more}
-use Rattle.board.proofs.Laws.{length-due, length-challenge, Allowed, attested-done}
+use Rattle.board.proofs.Laws.{length-due, length-challenge}
 use Rattle.demands.specs.Traces.{crOrKr, remembers, causeAt}
 use Rattle.demands.specs.Visit as claim
 use Rattle.demands.specs.Visit.{Inside, Free, Plays, storeAt, storeByte, writing}
+use Rattle.demands.proofs.Accepts.{Accepts, accepts}
 
 -- ---- steps that pass
 
 module _ (l : Layout) (m : Monitor) (s : Step) (free : m .held ≡ false) where
   -- a step inside, from CR or at CR's lowest address
   inside-passes : Inside l s → (within (l .cr) (m .last) ≡ false → s .pc ≡ l .cr .lo) → cause l m s ≡ 0
+  unfolding cause
   inside-passes i f =
-      let p = i .pc in
-      let d = i .idle in
-      unbroken-passes l m s (simp free) (record {
-        n1 = simp p;
-        n2 = simp (p, free, and-false);
-        n3 =
-            cases (within (l .cr) (m .last)) (λ e. simp (free, e))
-            (λ e. simp (free, e, p, eq-eqb (s .pc) (l .cr .lo) (f e)));
-        n4 = simp (i .calm, free);
-        n5 = simp p;
-        n6 =
-            cases (s .writes)
-            (λ e. simp (free, p, e) (one-of (within (l .xs) (s .cpu)) (within (l .mr) (s .cpu)) (within (l .ctr) (s .cpu)) (i .writes e)))
-            (λ e. simp (free, p, e));
-        n7 = simp d;
-        n8 = simp d;
-        n9 = simp (d, free);
-        n10 = simp (p, d, and-false);
-      })
-    where
-      one-of : (a b c : Bool) → (a || b || c) ≡ true → (not a && not b && not c) ≡ false
-      one-of true b c e = refl
-      one-of false true c e = refl
-      one-of false false c e = simp e
+      let came : (within (l .cr) (m .last) || eqb (s .pc) (l .cr .lo)) ≡ true =
+      cases (within (l .cr) (m .last)) (λ e. simp e) (λ e. simp (e, eq-eqb (s .pc) (l .cr .lo) (f e))) in
+      let lawful : (not (s .writes) || writable l (s .cpu)) ≡ true = cases (s .writes) (λ e. simp (e, i .writes e)) (λ e. simp e) in
+      let away : rule15 m s ≡ false = simp free in
+      simp (away, visit-lowest l m s (simp (i .pc, came, i .calm, i .idle, lawful)))
 
   -- a step outside that accesses nothing, from CR's highest address
   outside-passes : m .last ≡ l .cr .hi → within (l .cr) (s .pc) ≡ false → s .reads ≡ false → s .writes ≡ false → s .active ≡ false
@@ -135,22 +119,6 @@ off-rom b g a (inr e) =
     let k : within (region b KR) a ≡ false = elsewhere g CTR KR (omega arith) (omega arith) (λ q. omega arith) refl refl a e in
     simp (c, k)
 
-reply-address : (l : Layout) (i : ℕ) → i < 32 → storeAt l i ≡ replyAt l + i
-reply-address l i h = simp (lt-ltb i 32 h)
-
-counter-address : (l : Layout) (j : ℕ) → storeAt l (32 + j) ≡ l .ctr .lo + j
-counter-address l j =
-    let q : 32 + j - 32 ≡ j = omega arith in
-    simp (le-ltb (32 + j) 32 (omega arith), q)
-
-reply-byte : (l : Layout) (memory : List ℕ) (i : ℕ) → i < 32 → storeByte l memory i ≡ getD (due l memory) i 0
-reply-byte l memory i h = simp (lt-ltb i 32 h)
-
-counter-byte : (l : Layout) (memory : List ℕ) (j : ℕ) → storeByte l memory (32 + j) ≡ getD (challenge l memory) j 0
-counter-byte l memory j =
-    let q : 32 + j - 32 ≡ j = omega arith in
-    simp (le-ltb (32 + j) 32 (omega arith), q)
-
 store-in : (l : Layout) → Placed l → (i : ℕ) → i < 64 → mrOrCtr l (storeAt l i)
 store-in l p i h =
     cases (ltb i 32)
@@ -161,17 +129,6 @@ store-in l p i h =
     let q = ltb-false i 32 e in
     inr (simp e (ends-within (l .ctr) (l .ctr .lo + (i - 32)) (omega arith) (omega (arith, p .counter)))))
 
--- an accepted call
-module _ (memory layout memory′ : List ℕ) (a : Attests memory layout memory′ Done) where
-  allowed : Allowed memory layout
-  allowed = attested-done memory layout memory′ a .0
-
-  good : Good layout
-  good = done-good layout (allowed .laid)
-
-  leaves : memory′ ≡ accepted (layoutOf layout) memory
-  leaves = attested-done memory layout memory′ a .1
-
 module _ (layout memory′ : List ℕ) (t : ℕ → Step) (x : State) (h : Bytes layout) (free : Free (layoutOf layout) x)
     (a : Attests (x .memory) layout memory′ Done) (plays : Plays (layoutOf layout) (x .memory) t) where
   abbrev l : Layout
@@ -180,8 +137,11 @@ module _ (layout memory′ : List ℕ) (t : ℕ → Step) (x : State) (h : Bytes
   abbrev memory : List ℕ
   memory = x .memory
 
-  places : Placed l
-  places = placed layout h (allowed memory layout memory′ a .laid)
+  call : Accepts memory layout memory′
+  call = accepts memory layout memory′ h a
+
+  length-is : length (challenge l memory) ≡ 32
+  length-is = length-challenge l (call .lies) memory (call .allowed .long)
 
   -- step i makes its store
   each-stores : (i : ℕ) → i < 64 → before l t x (suc i) .memory ≡ set (before l t x i .memory) (storeAt l i) (storeByte l memory i)
@@ -189,7 +149,7 @@ module _ (layout memory′ : List ℕ) (t : ℕ → Step) (x : State) (h : Bytes
   each-stores i k =
       step-stores l (remembers l t x i) (t i) (before l t x i .memory)
       (visit-passes l t x 64 free (plays .visit) i k) (plays .visit .each i k .idle) (plays .writes i k)
-      (ap (crOrKr l) (plays .address i k) ∙ off-rom layout (good memory layout memory′ a) (storeAt l i) (store-in l places i k))
+      (ap (crOrKr l) (plays .address i k) ∙ off-rom layout (call .good) (storeAt l i) (store-in l (call .lies) i k))
       ∙ ap (λ (b : ℕ). set (before l t x i .memory) b (t i .cpudata)) (plays .address i k)
       ∙ ap (set (before l t x i .memory) (storeAt l i)) (plays .byte i k)
 
@@ -198,7 +158,7 @@ module _ (layout memory′ : List ℕ) (t : ℕ → Step) (x : State) (h : Bytes
   reply-stored zero k = refl
   reply-stored (suc i) k =
       each-stores i (omega arith)
-      ∙ simp (reply-stored i (omega arith), reply-address l i k, reply-byte l memory i k)
+      ∙ simp (reply-stored i (omega arith), lt-ltb i 32 k)
       (sym (sets-more memory (replyAt l) (due l memory) i (omega (arith, length-due l memory))))
 
   abbrev first : List ℕ
@@ -209,18 +169,17 @@ module _ (layout memory′ : List ℕ) (t : ℕ → Step) (x : State) (h : Bytes
       reply-stored 32 (omega arith) ∙ ap (sets memory (replyAt l)) (take-all 32 (due l memory) (omega (arith, length-due l memory)))
   counter-stored (suc j) k =
       let q : 32 + suc j ≡ suc (32 + j) = omega arith in
-      let n = length-challenge l places memory (allowed memory layout memory′ a .long) in
+      let d : 32 + j - 32 ≡ j = omega arith in
       rw q (each-stores (32 + j) (omega arith)
-      ∙ simp (counter-stored j (omega arith), counter-address l j, counter-byte l memory j)
-      (sym (sets-more first (l .ctr .lo) (challenge l memory) j (omega arith))))
+      ∙ simp (counter-stored j (omega arith), le-ltb (32 + j) 32 (omega arith), d)
+      (sym (sets-more first (l .ctr .lo) (challenge l memory) j (omega (arith, length-is)))))
 
   attests : before l t x 64 .memory ≡ memory′
   unfolding accepted
   attests =
-      let n = length-challenge l places memory (allowed memory layout memory′ a .long) in
       counter-stored 32 (omega arith)
-      ∙ ap (sets first (l .ctr .lo)) (take-all 32 (challenge l memory) (omega arith))
-      ∙ sym (leaves memory layout memory′ a)
+      ∙ ap (sets first (l .ctr .lo)) (take-all 32 (challenge l memory) (omega (arith, length-is)))
+      ∙ sym (call .left)
 
 pub visit-attests : claim.VisitAttests
 visit-attests = attests
@@ -236,16 +195,15 @@ module _ (b : List ℕ) (g : Good b) where
       (ends-within r (r .lo) (omega arith) o, ends-within r (r .hi) o (omega arith))
 
 -- rule 6 allows a write there
-allows : (l : Layout) (a : ℕ) → mrOrCtr l a → (within (l .xs) a || within (l .mr) a || within (l .ctr) a) ≡ true
+allows : (l : Layout) (a : ℕ) → mrOrCtr l a → writable l a ≡ true
 allows l a (inl e) = simp (e, or-true)
 allows l a (inr e) = simp (e, or-true)
 
 pub can-be-played : claim.CanBePlayed
 can-be-played memory layout memory′ h a =
     let l = layoutOf layout in
-    let w = allowed memory layout memory′ a in
-    let p = placed layout h (w .laid) in
-    let c = code-ends layout (good memory layout memory′ a) in
+    let w = accepts memory layout memory′ h a in
+    let c = code-ends layout (w .good) in
     record {
       visit =
           record {
@@ -256,7 +214,7 @@ can-be-played memory layout memory′ h a =
                   pc = cases (eqb i 63) (λ e. simp e (c .1)) (λ e. simp e (c .0));
                   calm = refl;
                   idle = refl;
-                  writes = λ e. allows l (storeAt l i) (store-in l p i k);
+                  writes = λ e. allows l (storeAt l i) (store-in l (w .lies) i k);
                 };
             ends = refl;
           };

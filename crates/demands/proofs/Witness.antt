@@ -18,14 +18,14 @@ use Rattle.effects.specs.Effects.{exposing, answer, stored, storing, written}
 use Rattle.monitor.specs.Runs.{begin, steps, before, answers, resetting}
 use Rattle.monitor.specs.Promises.{traceCheck}
 use Rattle.demands.specs.Demand3.{Agree, SameTrace}
-use Rattle.demands.specs.Witness.{layout, zeros, board, trace, room, answered, Call, Demand3Witness}
+use Rattle.demands.specs.Witness.{layout, others, board, trace, room, answered, Call, Demand3Witness}
 
-length-zeros : length zeros ≡ 65462
-unfolding zeros
-length-zeros = length-replicate {A = ℕ} 65462 0
+length-others : length others ≡ 65462
+unfolding others
+length-others = length-replicate {A = ℕ} 65462 0
 
 pub length-board : (a b key mailbox : ℕ) → length (board a b key mailbox) ≡ 65536
-length-board a b key mailbox = omega (arith, length-zeros)
+length-board a b key mailbox = omega (arith, length-others)
 
 pub layout-good : layoutCheck layout ≡ Done
 unfolding layoutCheck first

@@ -93,8 +93,8 @@ abbrev pub In : ℕ → Region → Type 0
 In a r = (r .lo ≤ a) × (a ≤ r .hi)
 
 -- a region has n bytes: both its ends are counted
-abbrev pub Sized : Region → ℕ → Type 0
-Sized r n = r .hi + 1 ≡ r .lo + n
+abbrev pub HasBytes : Region → ℕ → Type 0
+HasBytes r n = r .hi + 1 ≡ r .lo + n
 
 pub record SharedAddress (layout : List ℕ) : Type 0 where
   pub one : ℕ
@@ -109,9 +109,9 @@ pub record SharedAddress (layout : List ℕ) : Type 0 where
 
 abbrev pub WrongSize : List ℕ → ℕ → Type 0
 WrongSize layout k =
-    ((k ≡ KR) × (Sized (region layout k) 64 → ⊥))
+    ((k ≡ KR) × (HasBytes (region layout k) 64 → ⊥))
     ⊎ ((k ≡ MR) × (region layout k .hi + 1 < region layout k .lo + 96))
-    ⊎ ((k ≡ CTR) × (Sized (region layout k) 32 → ⊥))
+    ⊎ ((k ≡ CTR) × (HasBytes (region layout k) 32 → ⊥))
 
 abbrev pub layoutConditions : List ℕ → List Condition
 layoutConditions layout =

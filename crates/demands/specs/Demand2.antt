@@ -100,7 +100,7 @@ AcceptsExactly =
     → (r ≡ call.Done) ↔ ((length memory ≡ memoryBytes) × Good layout × Request (layoutOf layout) memory)
 
 -- step 3: the reply, the counter, and every other byte
-pub record Answers (l : Layout) (memory memory′ : List ℕ) : Type 0 where
+pub record Served (l : Layout) (memory memory′ : List ℕ) : Type 0 where
   pub reply :
       replied l memory′
       ≡ hmac (hmac (key l memory) (hmac (key l memory) (challenge l memory))) (attested l memory)
@@ -112,7 +112,7 @@ pub record Answers (l : Layout) (memory memory′ : List ℕ) : Type 0 where
 abbrev pub AnswersSo : Type 0
 AnswersSo =
     (memory layout memory′ : List ℕ) → Bytes layout → Attests memory layout memory′ call.Done
-    → Answers (layoutOf layout) memory memory′
+    → Served (layoutOf layout) memory memory′
 
 -- a refused call has the number 1 to 6, 10 or 11, so never that of a length, and changes nothing
 abbrev pub RefusesSo : Type 0

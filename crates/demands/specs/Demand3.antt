@@ -8,11 +8,11 @@ use lib.Dec.{eqb}
 use lib.ListN.{length, getD}
 use Rattle.refusal.specs.Choice.{pick}
 use Rattle.layout.specs.declared.Layout.{Layout}
-use Rattle.layout.specs.Regions.{within, outside}
+use Rattle.layout.specs.Regions.{outside}
 use Rattle.layout.specs.Layouts.{layoutOf}
 use Rattle.rules.specs.declared.Step.{Step}
 use Rattle.rules.specs.declared.Monitor.{Monitor}
-use Rattle.rules.specs.Rules.{cpuWrites, cause, start}
+use Rattle.rules.specs.Rules.{codeWrites, cause, start}
 use Rattle.monitor.specs.declared.Stepped.{Stepped}
 use Rattle.monitor.specs.declared.Traced.{Traced}
 use Rattle.effects.specs.Effects.{answer}
@@ -28,7 +28,7 @@ pub record Agree (l : Layout) (x y : List ℕ) : Type 0 where
 
 -- the step stores a byte into the scratch: it writes with PC in CR and address in XS
 abbrev pub scratch : Layout → Step → Bool
-scratch l s = within (l .cr) (s .pc) && cpuWrites (l .xs) s
+scratch l s = codeWrites (l .xs) l s
 
 -- the step with another byte as CPU data
 abbrev pub with : Step → ℕ → Step

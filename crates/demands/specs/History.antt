@@ -11,12 +11,11 @@ use Rattle.refusal.specs.declared.Answer.{Answer}
 use Rattle.refusal.specs.declared.Answer.the-variants.{Done}
 use Rattle.layout.specs.declared.Layout.{Layout}
 use Rattle.layout.specs.Layouts.{layoutOf}
-use Rattle.layout.specs.Regions.{within}
 use Rattle.layout.specs.Calls.{memoryBytes}
 use Rattle.layout.specs.Good.{Good}
 use Rattle.rules.specs.declared.Step.{Step}
 use Rattle.rules.specs.declared.Monitor.{Monitor}
-use Rattle.rules.specs.Rules.{cpuWrites, resets}
+use Rattle.rules.specs.Rules.{codeWrites, resets}
 use Rattle.monitor.specs.declared.Stepped.{Stepped}
 use Rattle.monitor.specs.declared.Traced.{Traced}
 use Rattle.monitor.specs.Runs.{count, steps, begin, before}
@@ -44,7 +43,7 @@ pub record Keeps (l : Layout) (x y : List ℕ) : Type 0 where
 
 -- the attestation code stores into CTR at this step, and the step does not reset
 abbrev pub storesCounter : Layout → Monitor → Step → Bool
-storesCounter l m s = not (resets l m s) && within (l .cr) (s .pc) && cpuWrites (l .ctr) s
+storesCounter l m s = not (resets l m s) && codeWrites (l .ctr) l s
 
 -- it does so at no step of a trace
 abbrev pub CounterLeft : Layout → List ℕ → List ℕ → Type 0

@@ -65,8 +65,8 @@ interrupted pc = step pc false false true false false 0
 abbrev pub dmaReads : ℕ → ℕ → Step
 dmaReads pc a = step pc false false false true false a
 
-abbrev pub dmaWrites : ℕ → ℕ → Step
-dmaWrites pc a = step pc false false false true true a
+abbrev pub dmaStores : ℕ → ℕ → Step
+dmaStores pc a = step pc false false false true true a
 
 -- ---- the table
 
@@ -103,7 +103,7 @@ marked =
     ∷ row (last 0xA000) (writes 0xA010 0x0290) 6
     ∷ row (last 0xC000) (writes 0xC002 0x0400) 5
     ∷ row (last 0xC000) (dmaReads 0xC002 0x0310) 0
-    ∷ row (last 0xC000) (dmaWrites 0xC002 0x0310) 10
+    ∷ row (last 0xC000) (dmaStores 0xC002 0x0310) 10
     ∷ []
 
 -- row by row, and for every remembered PC where the monitor is held, the cause is the table's

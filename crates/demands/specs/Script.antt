@@ -1,8 +1,8 @@
 -- Attestation as a trace: the bytes of a visit that makes the stores of an accepted call, given to the monitor.
 -- Definitions and claims; the proofs are in proofs/Script.antt. Assumes nothing.
 use mathlib.Core.Path.{_≡_}
-use mathlib.Core.List.{List, [], _∷_, _++_}
-use Prim.Native.Nat.{ℕ, zero, suc, _+_, _*_, _/_, _%_, _≤_, _<_}
+use mathlib.Core.List.{List, [], _++_}
+use Prim.Native.Nat.{ℕ, zero, suc, _≤_, _<_}
 use lib.Dec.{ltb}
 use lib.ListN.{length}
 use Rattle.refusal.specs.Bytes.{Bytes}
@@ -11,6 +11,7 @@ use Rattle.refusal.specs.declared.Answer.the-variants.{Done}
 use Rattle.layout.specs.declared.Layout.{Layout}
 use Rattle.layout.specs.Layouts.{layoutOf}
 use Rattle.rules.specs.declared.Step.{Step}
+use Rattle.rules.specs.Steps.{encode, Addressed}
 use Rattle.monitor.specs.declared.Traced.{Traced}
 use Rattle.monitor.specs.declared.Traced.the-variants as traced
 use Rattle.monitor.specs.Runs.{steps}
@@ -19,24 +20,14 @@ use Rattle.board.specs.Promises.{Attests}
 use Rattle.demands.specs.Marked.{at}
 use Rattle.demands.specs.Visit.{played}
 
--- a step's 12 bytes
-abbrev pub flags : Step → ℕ
-flags s =
-    pick (s .reads) 1 0 + 2 * pick (s .writes) 1 0 + 4 * pick (s .interrupt) 1 0 + 8 * pick (s .active) 1 0 + 16 * pick (s .stores) 1 0
-
-abbrev pub encode : Step → List ℕ
-encode s =
-    s .pc % 256 ∷ s .pc / 256 ∷ s .cpu % 256 ∷ s .cpu / 256 ∷ s .dma % 256 ∷ s .dma / 256
-    ∷ flags s ∷ s .cpudata ∷ s .dmadata ∷ 0 ∷ 0 ∷ 0 ∷ []
-
--- those of n steps
+-- the bytes of n steps
 unfoldable pub encoded : (ℕ → Step) → ℕ → List ℕ
 encoded t zero = []
 encoded t (suc n) = encoded t n ++ encode (t n)
 
 -- they tell these steps
 abbrev pub TellsSteps : Type 0
-TellsSteps = (t : ℕ → Step) (n i : ℕ) → i < n → steps (encoded t n) i ≡ t i
+TellsSteps = (t : ℕ → Step) (n i : ℕ) → i < n → Addressed (t i) → steps (encoded t n) i ≡ t i
 
 -- the visit of an accepted call, with a step before it and one behind it at PC 0 that access nothing
 abbrev pub scripted : Layout → List ℕ → ℕ → Step

@@ -11,7 +11,7 @@ use Rattle.layout.specs.Regions.{within, outside}
 use Rattle.rules.specs.declared.Step.{Step}
 use Rattle.rules.specs.declared.Monitor.{Monitor}
 use Rattle.rules.specs.Steps.{bit}
-use Rattle.rules.specs.Rules.{cause, resets, start}
+use Rattle.rules.specs.Rules.{writable, cause, resets, start}
 use Rattle.monitor.specs.declared.Stepped.{Stepped}
 use Rattle.monitor.specs.declared.Stepped.the-variants as stepped
 use Rattle.monitor.specs.declared.Traced.the-variants as traced
@@ -75,7 +75,7 @@ pub record Alone (l : Layout) (t : ℕ → Step) (x : State) (n : ℕ) : Type 0 
   pub unheld : remembers l t x n .held ≡ false
   pub calm : t n .interrupt ≡ false
   pub idle : t n .active ≡ false
-  pub kept : t n .writes ≡ true → (within (l .xs) (t n .cpu) || within (l .mr) (t n .cpu) || within (l .ctr) (t n .cpu)) ≡ true
+  pub kept : t n .writes ≡ true → writable l (t n .cpu) ≡ true
 
 -- where CR does not hold 0, it does in each step with PC in CR that does not reset
 abbrev pub RunsAlone : Type 0
@@ -101,8 +101,8 @@ pub record Nothing (l : Layout) (t : ℕ → Step) (x : State) (n : ℕ) : Type 
 abbrev pub ResetsNothing : Type 0
 ResetsNothing = (l : Layout) (t : ℕ → Step) (x : State) (n : ℕ) → resetsAt l t x n ≡ true → Nothing l t x n
 
--- step n hands out v, the byte at address a: it does not reset, and the address is outside KR and XS
-pub record HandsOut (l : Layout) (t : ℕ → Step) (x : State) (n a v : ℕ) : Type 0 where
+-- step n shows v, the byte at address a: it does not reset, and the address is outside KR and XS
+pub record Shows (l : Layout) (t : ℕ → Step) (x : State) (n a v : ℕ) : Type 0 where
   pub passes : resetsAt l t x n ≡ false
   pub key : outside (l .kr) a ≡ true
   pub scratch : outside (l .xs) a ≡ true
@@ -112,13 +112,13 @@ pub record HandsOut (l : Layout) (t : ℕ → Step) (x : State) (n a v : ℕ) : 
 abbrev pub CpuExposed : Type 0
 CpuExposed =
     (l : Layout) (t : ℕ → Step) (x : State) (n : ℕ) → bit 0 (said l t x n .exposed) ≡ true
-    → (t n .reads ≡ true) × (outside (l .cr) (t n .pc) ≡ true) × HandsOut l t x n (t n .cpu) (said l t x n .cpu)
+    → (t n .reads ≡ true) × (outside (l .cr) (t n .pc) ≡ true) × Shows l t x n (t n .cpu) (said l t x n .cpu)
 
 -- the DMA's byte, told by bit 1, is that of a DMA read
 abbrev pub DmaExposed : Type 0
 DmaExposed =
     (l : Layout) (t : ℕ → Step) (x : State) (n : ℕ) → bit 1 (said l t x n .exposed) ≡ true
-    → (t n .active ≡ true) × (t n .stores ≡ false) × HandsOut l t x n (t n .dma) (said l t x n .dma)
+    → (t n .active ≡ true) × (t n .stores ≡ false) × Shows l t x n (t n .dma) (said l t x n .dma)
 
 -- a byte that is not exposed is 0
 abbrev pub NotExposed : Type 0

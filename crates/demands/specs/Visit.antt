@@ -1,7 +1,7 @@
 -- A lawful visit to the attestation code passes the monitor, and attestation is such a visit.
 -- Definitions and claims; the proofs are in proofs/Visit.antt. Assumes nothing.
 use mathlib.Core.Path.{_≡_}
-use mathlib.Core.Bool.{true, false, _||_}
+use mathlib.Core.Bool.{true, false}
 use mathlib.Core.List.{List}
 use Prim.Native.Nat.{ℕ, _+_, _-_, _<_}
 use lib.Dec.{eqb, ltb}
@@ -14,6 +14,7 @@ use Rattle.layout.specs.Layouts.{layoutOf}
 use Rattle.layout.specs.Good.{Good}
 use Rattle.layout.specs.Regions.{within}
 use Rattle.rules.specs.declared.Step.{Step}
+use Rattle.rules.specs.Rules.{writable}
 use Rattle.monitor.specs.Runs.{State, before}
 use Rattle.board.specs.Memory.{challenge, replyAt}
 use Rattle.board.specs.Attestation.{due}
@@ -29,7 +30,7 @@ pub record Inside (l : Layout) (s : Step) : Type 0 where
   pub pc : within (l .cr) (s .pc) ≡ true
   pub calm : s .interrupt ≡ false
   pub idle : s .active ≡ false
-  pub writes : s .writes ≡ true → (within (l .xs) (s .cpu) || within (l .mr) (s .cpu) || within (l .ctr) (s .cpu)) ≡ true
+  pub writes : s .writes ≡ true → writable l (s .cpu) ≡ true
 
 -- n steps that enter CR at its lowest address and end at its highest
 pub record Visit (l : Layout) (t : ℕ → Step) (n : ℕ) : Type 0 where

@@ -10,19 +10,19 @@ use Rattle.monitor.specs.Promises.{Traces}
 use Rattle.demands.specs.Demand3.{Agree, SameTrace}
 
 -- a region in the first 256 addresses
-abbrev pub region : ℕ → ℕ → List ℕ
-region lo hi = lo ∷ 0 ∷ hi ∷ 0 ∷ []
+abbrev pub regionBytes : ℕ → ℕ → List ℕ
+regionBytes lo hi = lo ∷ 0 ∷ hi ∷ 0 ∷ []
 
 -- CR, KR, XS, MR, CTR, AR
 abbrev pub layout : List ℕ
-layout = region 0x01 0x02 ++ region 0x09 0x48 ++ region 0x03 0x04 ++ region 0x49 0xa8 ++ region 0xa9 0xc8 ++ region 0x05 0x08
+layout = regionBytes 0x01 0x02 ++ regionBytes 0x09 0x48 ++ regionBytes 0x03 0x04 ++ regionBytes 0x49 0xa8 ++ regionBytes 0xa9 0xc8 ++ regionBytes 0x05 0x08
 
-unfoldable pub zeros : List ℕ
-zeros = replicate 65462 0
+unfoldable pub others : List ℕ
+others = replicate 65462 0
 
 -- a memory: XS has these two bytes, AR 11 22 33 44, KR one byte 64 times, MR this first byte; all others are 0
 abbrev pub board : ℕ → ℕ → ℕ → ℕ → List ℕ
-board a b key mailbox = (0 ∷ 0 ∷ 0 ∷ a ∷ b ∷ 0x11 ∷ 0x22 ∷ 0x33 ∷ 0x44 ∷ []) ++ replicate 64 key ++ mailbox ∷ zeros
+board a b key mailbox = (0 ∷ 0 ∷ 0 ∷ a ∷ b ∷ 0x11 ∷ 0x22 ∷ 0x33 ∷ 0x44 ∷ []) ++ replicate 64 key ++ mailbox ∷ others
 
 -- a step: PC's two bytes, CPU address, DMA address, flags, CPU data
 abbrev pub step : ℕ → ℕ → ℕ → ℕ → ℕ → ℕ → List ℕ

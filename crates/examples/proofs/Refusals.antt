@@ -28,18 +28,18 @@ use Rattle.demands.proofs.Marked.{page-layout}
 use Rattle.demands.proofs.Witness.{length-board, layout-good}
 use Rattle.examples.specs.Refusals as claim
 
-length-blank : length claim.blank ≡ 65536
-unfolding claim.blank
-length-blank = length-replicate {A = ℕ} 65536 0
+length-zero-memory : length claim.zeroMemory ≡ 65536
+unfolding claim.zeroMemory
+length-zero-memory = length-replicate {A = ℕ} 65536 0
 
 -- a trace on a memory of zeros with the page's layout
 traced-so : (trace room : List ℕ) (n p : ℕ) → traceCheck trace (length room) ≡ refusedAt n p
-    → Traces claim.blank pageBytes trace room claim.blank room (traced.Refused (record { number = n; place = p }))
+    → Traces claim.zeroMemory pageBytes trace room claim.zeroMemory room (traced.Refused (record { number = n; place = p }))
 traced-so trace room n p e =
     record {
-      answered = simp (length-blank, page-layout .passes, e);
-      memory-left = simp (length-blank, page-layout .passes, e);
-      room-left = simp (length-blank, page-layout .passes, e);
+      answered = simp (length-zero-memory, page-layout .passes, e);
+      memory-left = simp (length-zero-memory, page-layout .passes, e);
+      room-left = simp (length-zero-memory, page-layout .passes, e);
     }
 
 odd-trace : traceCheck (claim.zeros 13) 0 ≡ refusedAt 7 0
@@ -50,7 +50,7 @@ no-room : traceCheck (claim.zeros 12) 3 ≡ refusedAt 8 0
 unfolding traceCheck
 no-room = refl
 
-unclean-trace : traceCheck claim.unclean 8 ≡ refusedAt 9 1
+unclean-trace : traceCheck claim.uncleanTrace 8 ≡ refusedAt 9 1
 unfolding traceCheck first
 unclean-trace = refl
 
@@ -71,11 +71,11 @@ module _ (mailbox n : ℕ) where
       }
 
 old-request : request 0 10
-unfolding request requestCheck greater layoutOf small.zeros
+unfolding request requestCheck greater layoutOf small.others
 old-request = refl
 
 forged-request : request 1 11
-unfolding request requestCheck greater same token layoutOf small.zeros add word words bytes K H next schedule round rounds addTo compress blocks padding out sha256 k0 xored hmac
+unfolding request requestCheck greater same token layoutOf small.others add word words bytes K H next schedule round rounds addTo compress blocks padding out sha256 k0 xored hmac
 forged-request = refl
 
 -- files
@@ -83,9 +83,9 @@ overlapping-told : fileCheck claim.overlapping ≡ call.Done
 unfolding fileCheck firstFailing first entryFails begins
 overlapping-told = refl
 
-overlapping-bodies : bodiesCheck (body claim.overlapping 0) (body claim.overlapping 1) (body claim.overlapping 2) claim.blank [] ≡ refusedAt 14 1
+overlapping-bodies : bodiesCheck (body claim.overlapping 0) (body claim.overlapping 1) (body claim.overlapping 2) claim.zeroMemory [] ≡ refusedAt 14 1
 unfolding bodiesCheck body begins segmentCheck firstWrong segments segmentFails place reached first
-overlapping-bodies = simp (length-blank, page-layout .passes)
+overlapping-bodies = simp (length-zero-memory, page-layout .passes)
 
 pub each-refusal : claim.EachRefusal
 unfolding layoutCheck first fileCheck firstFailing judgeCheck
@@ -98,7 +98,7 @@ each-refusal = record {
   regions-share = record { answered = refl };
   trace-size = traced-so (claim.zeros 13) [] 7 0 odd-trace;
   room-size = traced-so (claim.zeros 12) (claim.zeros 3) 8 0 no-room;
-  step-not-zero = traced-so claim.unclean (claim.zeros 8) 9 1 unclean-trace;
+  step-not-zero = traced-so claim.uncleanTrace (claim.zeros 8) 9 1 unclean-trace;
   challenge-not-greater = attested-so 0 10 old-request;
   token-differs = attested-so 1 11 forged-request;
   length-or-total = record { answered = refl; given = refl };

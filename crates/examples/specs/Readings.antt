@@ -7,20 +7,20 @@ use Rattle.reader.specs.Reading.{readAt, placeAfter, readRow}
 use Rattle.examples.specs.PageCase.{step}
 
 -- a trace and a place, what is read there as a row, and the place afterwards
-pub record Reading : Type 0 where
+pub record Asked : Type 0 where
   pub trace : List ℕ
   pub place : ℕ
   pub told : List ℕ
   pub after : ℕ
 
-abbrev reading : List ℕ → ℕ → List ℕ → ℕ → Reading
+abbrev reading : List ℕ → ℕ → List ℕ → ℕ → Asked
 reading trace place told after = record { trace = trace; place = place; told = told; after = after }
 
 -- a step that reads E001 with PC C000, and one with bit 5 of its flags set
 abbrev two : List ℕ
 two = step 0x00 0xc0 0x01 0xe0 0x00 0x00 0x01 ++ step 0x02 0xc0 0x00 0x00 0x00 0x00 0x20
 
-abbrev pub table : List Reading
+abbrev pub table : List Asked
 table =
     reading two 0 (0 ∷ 0xC000 ∷ 0xE001 ∷ 0 ∷ 1 ∷ 0 ∷ 0 ∷ 0 ∷ 0 ∷ 0 ∷ 0 ∷ []) 1
     ∷ reading two 1 (9 ∷ 1 ∷ []) 1

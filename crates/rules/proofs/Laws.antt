@@ -1,8 +1,8 @@
--- The laws of the cause, for readers and for the crates above. Assumes nothing.
+-- The laws of a step's bytes and of the cause, for readers and for the crates above. Assumes nothing.
 use mathlib.Core.Path.{_≡_, refl, ap, _∙_}
 use mathlib.Core.Logic.{_≢_}
-use mathlib.Core.Bool.{Bool, true, false}
-use Prim.Native.Nat.{ℕ, zero, suc, _<_}
+use mathlib.Core.Bool.{Bool, true, false, not, _&&_, _||_}
+use Prim.Native.Nat.{ℕ, zero, suc, _+_, _*_, _/_, _%_, _^_, _≤_, _<_}
 use native.Mathlib.Omega.{arith}
 use lib.Dec.{eqb, ltb}
 use borrow.Author.Tests.{eqb-true, eqb-false, ltb-false, lt-ltb, not-true, not-false}
@@ -12,10 +12,86 @@ use Rattle.refusal.proofs.First.{first-most, first-least, first-is, first-none}
 use Rattle.refusal.proofs.Tests.{cases, clash}
 use Rattle.layout.specs.declared.Layout.{Layout}
 use Rattle.layout.specs.Regions.{within}
+use Rattle.layout.specs.Layouts.{word}
 use Rattle.rules.specs.declared.Step.{Step}
 use Rattle.rules.specs.declared.Monitor.{Monitor}
 use Rattle.rules.specs.declared.Broken.{Broken}
-use Rattle.rules.specs.Rules.{rule15, broken, numbered, lowest, cause, resets}
+use Rattle.rules.specs.Steps.{bit, stepOf, clean, flags, encode, TellsStep}
+use Rattle.rules.specs.Rules.{writable, rule6, rule15, broken, numbered, lowest, cause, resets}
+
+-- ---- a step's bytes
+
+flag-most : (f : Bool) → pick {A = ℕ} f 1 0 ≤ 1
+flag-most true = omega arith
+flag-most false = omega arith
+
+flag-weight : (f : Bool) (w : ℕ) → pick f w 0 ≡ w * pick f 1 0
+flag-weight true w = omega arith
+flag-weight false w = omega arith
+
+flag-is : (f : Bool) → eqb (pick f 1 0) 1 ≡ f
+flag-is true = refl
+flag-is false = refl
+
+-- five digits of 0 and 1
+record Digits (a b c d e f : ℕ) : Type 0 where
+  d0 : f / 2 ^ 0 % 2 ≡ a
+  d1 : f / 2 ^ 1 % 2 ≡ b
+  d2 : f / 2 ^ 2 % 2 ≡ c
+  d3 : f / 2 ^ 3 % 2 ≡ d
+  d4 : f / 2 ^ 4 % 2 ≡ e
+  most : f < 32
+
+digits : (a b c d e f : ℕ) → a ≤ 1 → b ≤ 1 → c ≤ 1 → d ≤ 1 → e ≤ 1 → f ≡ a + 2 * b + 4 * c + 8 * d + 16 * e → Digits a b c d e f
+digits a b c d e f ha hb hc hd he h = record {
+  d0 = omega arith;
+  d1 = omega arith;
+  d2 = omega arith;
+  d3 = omega arith;
+  d4 = omega arith;
+  most = omega arith;
+}
+
+flag-digits : (s : Step)
+    → Digits (pick (s .reads) 1 0) (pick (s .writes) 1 0) (pick (s .interrupt) 1 0) (pick (s .active) 1 0) (pick (s .stores) 1 0) (flags s)
+flag-digits s =
+    digits (pick (s .reads) 1 0) (pick (s .writes) 1 0) (pick (s .interrupt) 1 0) (pick (s .active) 1 0) (pick (s .stores) 1 0) (flags s)
+    (flag-most (s .reads)) (flag-most (s .writes)) (flag-most (s .interrupt)) (flag-most (s .active)) (flag-most (s .stores))
+    (omega (arith, flag-weight (s .writes) 2, flag-weight (s .interrupt) 4, flag-weight (s .active) 8, flag-weight (s .stores) 16))
+
+pub flags-most : (s : Step) → flags s < 32
+flags-most s = flag-digits s .most
+
+halves : (a : ℕ) → a < 65536 → word (a % 256) (a / 256 % 256) ≡ a
+halves a h = omega arith
+
+pub tells-step : TellsStep
+unfolding stepOf encode
+tells-step s h =
+    let d = flag-digits s in
+    let r : bit 0 (flags s) ≡ s .reads = ap (λ (n : ℕ). eqb n 1) (d .d0) ∙ flag-is (s .reads) in
+    let w : bit 1 (flags s) ≡ s .writes = ap (λ (n : ℕ). eqb n 1) (d .d1) ∙ flag-is (s .writes) in
+    let i : bit 2 (flags s) ≡ s .interrupt = ap (λ (n : ℕ). eqb n 1) (d .d2) ∙ flag-is (s .interrupt) in
+    let a : bit 3 (flags s) ≡ s .active = ap (λ (n : ℕ). eqb n 1) (d .d3) ∙ flag-is (s .active) in
+    let t : bit 4 (flags s) ≡ s .stores = ap (λ (n : ℕ). eqb n 1) (d .d4) ∙ flag-is (s .stores) in
+    simp (halves (s .pc) (h .pc), halves (s .cpu) (h .cpu), halves (s .dma) (h .dma), r, w, i, a, t)
+
+pub clean-encode : (s : Step) → clean (encode s) ≡ true
+unfolding encode
+clean-encode s = simp (lt-ltb (flags s) 32 (flags-most s))
+
+-- ---- the cause
+
+-- rule 6: PC in CR, CPU writes where it may not
+none-of-three : (a b c : Bool) → (not a && not b && not c) ≡ not (a || b || c)
+none-of-three true b c = refl
+none-of-three false true c = refl
+none-of-three false false c = refl
+
+pub rule-6 : (l : Layout) (s : Step) → rule6 l s ≡ (within (l .cr) (s .pc) && s .writes && not (writable l (s .cpu)))
+rule-6 l s =
+    ap (λ (t : Bool). within (l .cr) (s .pc) && s .writes && t)
+    (none-of-three (within (l .xs) (s .cpu)) (within (l .mr) (s .cpu)) (within (l .ctr) (s .cpu)))
 
 -- held and PC not 0: cause 15, whatever else applies
 pub held-away : (l : Layout) (m : Monitor) (s : Step) → rule15 m s ≡ true → cause l m s ≡ 15
@@ -88,6 +164,9 @@ unbroken-quiet l m s u (suc (suc (suc (suc (suc (suc (suc (suc zero)))))))) = u 
 unbroken-quiet l m s u (suc (suc (suc (suc (suc (suc (suc (suc (suc zero))))))))) = u .n9
 unbroken-quiet l m s u (suc (suc (suc (suc (suc (suc (suc (suc (suc (suc zero)))))))))) = u .n10
 unbroken-quiet l m s u (suc (suc (suc (suc (suc (suc (suc (suc (suc (suc (suc k))))))))))) = refl
+
+pub unbroken-lowest : (l : Layout) (m : Monitor) (s : Step) → Unbroken l m s → lowest (broken l m s) ≡ 0
+unbroken-lowest l m s u = quiet-lowest (broken l m s) (λ k h. unbroken-quiet l m s u k)
 
 -- then a step that is not held away from PC 0 has no cause
 pub unbroken-passes : (l : Layout) (m : Monitor) (s : Step) → rule15 m s ≡ false → Unbroken l m s → cause l m s ≡ 0

@@ -1,2 +1,2 @@
-pub mod None
 pub mod Laws
+pub mod None

@@ -1,5 +1,5 @@
 -- Steps to which no rule applies. Assumes nothing.
-use mathlib.Core.Path.{_≡_, refl}
+use mathlib.Core.Path.{_≡_, refl, _∙_}
 use mathlib.Core.Bool.{Bool, true, false, not, _&&_, _||_, and-false, false≢true}
 use lib.Dec.{eqb}
 use borrow.Author.Tests.{not-true}
@@ -9,13 +9,8 @@ use Rattle.layout.specs.declared.Layout.{Layout}
 use Rattle.layout.specs.Regions.{within}
 use Rattle.rules.specs.declared.Step.{Step}
 use Rattle.rules.specs.declared.Monitor.{Monitor}
-use Rattle.rules.specs.declared.Broken.{Broken}
-use Rattle.rules.specs.Rules.{rule3, rule6, broken, lowest}
-
-none-of : (b : Broken) → b .r1 ≡ false → b .r2 ≡ false → b .r3 ≡ false → b .r4 ≡ false → b .r5 ≡ false → b .r6 ≡ false → b .r7 ≡ false
-    → b .r8 ≡ false → b .r9 ≡ false → b .r10 ≡ false → lowest b ≡ 0
-unfolding first
-none-of b e1 e2 e3 e4 e5 e6 e7 e8 e9 e10 = simp (e1, e2, e3, e4, e5, e6, e7, e8, e9, e10)
+use Rattle.rules.specs.Rules.{writable, rule3, rule6, broken, lowest}
+use Rattle.rules.proofs.Laws.{rule-6, unbroken-lowest}
 
 -- with PC and last PC outside CR, and the accesses outside KR, XS and CTR, no rule at all
 pub apart-lowest : (l : Layout) (m : Monitor) (s : Step)
@@ -41,25 +36,32 @@ came true c e = refl
 came false true e = refl
 came false false e = absurd (false≢true e)
 
-lawful : (w x y z : Bool) → (not w || (x || y || z)) ≡ true → (true && w && (not x && not y && not z)) ≡ false
-lawful false x y z e = refl
-lawful true true y z e = refl
-lawful true false true z e = refl
-lawful true false false true e = refl
-lawful true false false false e = absurd (false≢true e)
+lawful : (w a : Bool) → (not w || a) ≡ true → (w && not a) ≡ false
+lawful false a e = refl
+lawful true a e = simp e
 
 pub visit-lowest : (l : Layout) (m : Monitor) (s : Step)
     → (within (l .cr) (s .pc) && (within (l .cr) (m .last) || eqb (s .pc) (l .cr .lo))
     && not (s .interrupt || s .active)
-    && (not (s .writes) || (within (l .xs) (s .cpu) || within (l .mr) (s .cpu) || within (l .ctr) (s .cpu))))
+    && (not (s .writes) || writable l (s .cpu)))
     ≡ true
     → lowest (broken l m s) ≡ 0
-unfolding first
 visit-lowest l m s e =
     let w = both (within (l .cr) (s .pc) && (within (l .cr) (m .last) || eqb (s .pc) (l .cr .lo)) && not (s .interrupt || s .active)) _ e in
     let q = both (within (l .cr) (s .pc) && (within (l .cr) (m .last) || eqb (s .pc) (l .cr .lo))) _ (w .0) in
     let p = both (within (l .cr) (s .pc)) (within (l .cr) (m .last) || eqb (s .pc) (l .cr .lo)) (q .0) in
     let n = neither (s .interrupt) (s .active) (not-true _ (q .1)) in
     let r3 : rule3 l m s ≡ false = simp (p .0) (came (within (l .cr) (m .last)) (eqb (s .pc) (l .cr .lo)) (p .1)) in
-    let r6 : rule6 l s ≡ false = simp (p .0) (lawful (s .writes) (within (l .xs) (s .cpu)) (within (l .mr) (s .cpu)) (within (l .ctr) (s .cpu)) (w .1)) in
-    none-of (broken l m s) (simp (p .0)) (simp (p .0, and-false)) (simp (r3, and-false)) (simp (n .0, and-false)) (simp (p .0)) (simp (r6, and-false)) (simp (n .1)) (simp (n .1)) (simp (n .1, and-false)) (simp (p .0, n .1, and-false))
+    let r6 : rule6 l s ≡ false = rule-6 l s ∙ simp (p .0) (lawful (s .writes) (writable l (s .cpu)) (w .1)) in
+    unbroken-lowest l m s (record {
+      n1 = simp (p .0);
+      n2 = simp (p .0, and-false);
+      n3 = simp (r3, and-false);
+      n4 = simp (n .0, and-false);
+      n5 = simp (p .0);
+      n6 = simp (r6, and-false);
+      n7 = simp (n .1);
+      n8 = simp (n .1);
+      n9 = simp (n .1, and-false);
+      n10 = simp (p .0, n .1, and-false);
+    })

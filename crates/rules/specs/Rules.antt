@@ -13,12 +13,24 @@ use Rattle.rules.specs.declared.Step.{Step}
 use Rattle.rules.specs.declared.Monitor.{Monitor}
 use Rattle.rules.specs.declared.Broken.{Broken}
 
+-- the monitor starts held, with PC 0
+abbrev pub start : Monitor
+start = record { held = true; last = 0 }
+
 -- the CPU reads in a region, or writes in it
 abbrev pub cpuReads : Region → Step → Bool
 cpuReads r s = s .reads && within r (s .cpu)
 
 abbrev pub cpuWrites : Region → Step → Bool
 cpuWrites r s = s .writes && within r (s .cpu)
+
+-- the attestation code does: the CPU writes in a region with PC in CR
+abbrev pub codeWrites : Region → Layout → Step → Bool
+codeWrites r l s = within (l .cr) (s .pc) && cpuWrites r s
+
+-- the addresses that it may write: XS, MR and CTR
+abbrev pub writable : Layout → ℕ → Bool
+writable l a = within (l .xs) a || within (l .mr) a || within (l .ctr) a
 
 -- the DMA is active in a region, or writes in it: bit 4 without bit 3 has no effect
 abbrev pub dmaActive : Region → Step → Bool
@@ -106,10 +118,6 @@ cause l m s = pick (rule15 m s) 15 (lowest (broken l m s))
 
 abbrev pub resets : Layout → Monitor → Step → Bool
 resets l m s = not (eqb (cause l m s) 0)
-
--- the monitor starts held, with PC 0
-abbrev pub start : Monitor
-start = record { held = true; last = 0 }
 
 -- after each step, held is "this step reset" and the remembered PC is this step's
 unfoldable pub next : Layout → Monitor → Step → Monitor

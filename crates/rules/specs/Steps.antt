@@ -1,9 +1,11 @@
--- One step of a trace, as its 12 bytes tell it. Assumes nothing.
+-- One step of a trace and the 12 bytes that tell it. Assumes nothing.
+use mathlib.Core.Path.{_≡_}
 use mathlib.Core.Bool.{Bool, _&&_}
-use mathlib.Core.List.{List}
-use Prim.Native.Nat.{ℕ, _/_, _%_, _^_}
+use mathlib.Core.List.{List, [], _∷_}
+use Prim.Native.Nat.{ℕ, _+_, _/_, _%_, _^_, _<_}
 use lib.Dec.{eqb, ltb}
 use lib.ListN.{getD}
+use Rattle.refusal.specs.Choice.{pick}
 use Rattle.layout.specs.Layouts.{word}
 use Rattle.rules.specs.declared.Step.{Step}
 
@@ -29,3 +31,23 @@ stepOf b = record {
 -- bits 5 to 7 of the flags and the last three bytes are zero
 abbrev pub clean : List ℕ → Bool
 clean b = ltb (getD b 6 0) 32 && eqb (getD b 9 0) 0 && eqb (getD b 10 0) 0 && eqb (getD b 11 0) 0
+
+-- the flags' byte, from bit 0 on
+abbrev pub flags : Step → ℕ
+flags s = pick (s .reads) 1 0 + pick (s .writes) 2 0 + pick (s .interrupt) 4 0 + pick (s .active) 8 0 + pick (s .stores) 16 0
+
+-- the 12 bytes that a step stands for
+unfoldable pub encode : Step → List ℕ
+encode s =
+    s .pc % 256 ∷ s .pc / 256 % 256 ∷ s .cpu % 256 ∷ s .cpu / 256 % 256 ∷ s .dma % 256 ∷ s .dma / 256 % 256
+    ∷ flags s ∷ s .cpudata ∷ s .dmadata ∷ 0 ∷ 0 ∷ 0 ∷ []
+
+-- its addresses have two bytes each
+pub record Addressed (s : Step) : Type 0 where
+  pub pc : s .pc < 65536
+  pub cpu : s .cpu < 65536
+  pub dma : s .dma < 65536
+
+-- then these bytes tell it
+abbrev pub TellsStep : Type 0
+TellsStep = (s : Step) → Addressed s → stepOf (encode s) ≡ s

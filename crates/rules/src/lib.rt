@@ -151,7 +151,7 @@ fn visits(l: Layout, m: Monitor, s: Step) -> bool
     ensures { λ r. ⌜ r
         ≡ (within (l .cr) (s .pc) && (within (l .cr) (m .last) || eqb (s .pc) (l .cr .lo))
         && not (s .interrupt || s .active)
-        && (not (s .writes) || (within (l .xs) (s .cpu) || within (l .mr) (s .cpu) || within (l .ctr) (s .cpu)))) ⌝ }
+        && (not (s .writes) || R.writable l (s .cpu))) ⌝ }
 {
     let came = l.cr.holds(m.last) | (s.pc == l.cr.lo);
     let lawful = l.xs.holds(s.cpu) | l.mr.holds(s.cpu) | l.ctr.holds(s.cpu);

@@ -1,7 +1,6 @@
 -- `codecs::step_bytes` meets its contract. Assumes nothing.
 use borrow.Author.Needs.{needs}
-use Rattle.codecs.specs.Numbers.{little}
-use Rattle.codecs.specs.Values.{stepBytes}
+use Rattle.rules.specs.Steps.{encode}
 use Rattle.codecs.proofs.step_bytes.Statement.{statement}
 use Rattle.codecs.proofs.step_bytes.Tie as tie
 
@@ -27,7 +26,7 @@ cast-t17 : tie.Need-cast-t17
 cast-t17 c = search needs
 
 returns : tie.Need-returns
-unfolding little stepBytes
+unfolding encode
 returns c = cc
 
 pub step-bytes-spec : {M : Type 1} → statement M

@@ -8,9 +8,10 @@ use native.Mathlib.Omega.{arith}
 use lib.ListN.{length, getD, set, take, drop, length-append, length-take, drop-of-length-le}
 use lib.Seq.{sets, drop-cons, drop-length, take-all}
 use Rattle.io.specs.Digits.{digits, glyph}
-use Rattle.refusal.proofs.Laid.{sets-append, cut}
+use Rattle.octets.specs.Numbers.{little}
+use Rattle.octets.proofs.Laid.{sets-append, cut}
 use Rattle.sha256.specs.declared.Sha.{Sha}
-use Rattle.codecs.specs.Numbers.{little, hexText}
+use Rattle.codecs.specs.Digits.{hexText}
 use Rattle.codecs.specs.Values.{wordsBytes, stateBytes}
 use Rattle.codecs.specs.Promises.{WritesHex}
 

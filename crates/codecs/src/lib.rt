@@ -8,60 +8,18 @@ ghost use lib.ListN.{length, getD, take, drop, set};
 ghost use lib.Seq.{sets};
 ghost use Rattle.io.specs.Digits as D;
 ghost use Rattle.refusal.specs.Choice as C;
+ghost use Rattle.octets.specs.Numbers as N;
 ghost use Rattle.sha256.specs.Running as R;
-ghost use Rattle.codecs.specs.Numbers as N;
 ghost use Rattle.codecs.specs.Values as S;
 ghost use Rattle.codecs.specs.Promises as P;
 
 // The bytes of a state.
 pub const STATE: usize = 104;
 
-fn wide(x: u8) -> u64
-    ensures { λ r. ⌜ (r ≡ x) × (r < 256) ⌝ }
-{
-    x as u64
-}
-
-// The number that a few bytes stand for.
-fn few(bytes: &[u8]) -> u64
-    requires { ⌜ length (now bytes) ≤ 8 ⌝ }
-    ensures { λ r. ⌜ (r ≡ N.number (now (bytes .entry))) × (r < 256 ^ length (now (bytes .entry))) ⌝ }
-{
-    let mut n: u64 = 0;
-    let mut i = bytes.len();
-    while i > 0 {
-        i -= 1;
-        n = 256 * n + wide(bytes[i]);
-    }
-    n
-}
-
-// The number that the k bytes from a place on stand for, or those of them that there are.
-fn number_at(bytes: &[u8], from: usize, k: usize) -> u64
-    requires { ⌜ k ≤ 8 ⌝ }
-    ensures { λ r. ⌜ (r ≡ N.number (take k (drop from (now (bytes .entry))))) × (r < 256 ^ k) ⌝ }
-{
-    let n = bytes.len();
-    if n <= from {
-        return 0;
-    }
-    if n - from < k {
-        return few(&bytes[from..n]);
-    }
-    few(&bytes[from..from + k])
-}
-
-// The number that the first eight bytes stand for, or those of them that there are.
-pub fn number(bytes: &[u8]) -> u64
-    ensures { λ r. ⌜ P.IsNumber (now (bytes .entry)) r ⌝ }
-{
-    number_at(bytes, 0, 8)
-}
-
 fn word_at(bytes: &[u8], from: usize) -> u32
-    ensures { λ r. ⌜ r ≡ N.number (take 4 (drop from (now (bytes .entry)))) ⌝ }
+    ensures { λ r. ⌜ r ≡ N.numberAt (now (bytes .entry)) from 4 ⌝ }
 {
-    number_at(bytes, from, 4) as u32
+    octets::number_at(bytes, from, 4) as u32
 }
 
 fn words_of(bytes: &[u8]) -> [u32; 8]
@@ -94,7 +52,7 @@ pub fn state_of(bytes: &[u8]) -> Sha
 {
     let words = words_of(bytes);
     let block = block_behind_words(bytes);
-    let total = number_at(bytes, 96, 8);
+    let total = octets::number_at(bytes, 96, 8);
     Sha {
         words,
         block,
@@ -205,7 +163,7 @@ pub fn monitor_of(bytes: &[u8]) -> Monitor
 {
     Monitor {
         held: byte_at(bytes, 0) != 0,
-        last: layout::word(byte_at(bytes, 1), byte_at(bytes, 2)),
+        last: octets::word(byte_at(bytes, 1), byte_at(bytes, 2)),
     }
 }
 

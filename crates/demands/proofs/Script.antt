@@ -17,7 +17,8 @@ use Rattle.refusal.proofs.Bytes.{bytes-cons, bytes-append}
 use Rattle.refusal.proofs.Tests.{cases}
 use Rattle.refusal.proofs.First.{found-none}
 use Rattle.layout.specs.declared.Layout.{Layout}
-use Rattle.layout.specs.Layouts.{layoutOf, layoutCheck, word}
+use Rattle.octets.specs.Numbers.{word}
+use Rattle.layout.specs.Layouts.{layoutOf, layoutCheck}
 use Rattle.layout.specs.Calls.{memoryBytes, callCheck}
 use Rattle.layout.proofs.Laws.{zero-outside}
 use Rattle.layout.proofs.Calls.{call-rest}

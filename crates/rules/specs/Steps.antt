@@ -4,7 +4,7 @@ use mathlib.Core.List.{List}
 use Prim.Native.Nat.{ℕ, _/_, _%_, _^_}
 use lib.Dec.{eqb, ltb}
 use lib.ListN.{getD}
-use Rattle.layout.specs.Layouts.{word}
+use Rattle.octets.specs.Numbers.{word}
 use Rattle.rules.specs.declared.Step.{Step}
 
 -- bit k of a byte is set

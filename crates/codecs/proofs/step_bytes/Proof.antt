@@ -1,6 +1,6 @@
 -- `codecs::step_bytes` meets its contract. Assumes nothing.
 use borrow.Author.Needs.{needs}
-use Rattle.codecs.specs.Numbers.{little}
+use Rattle.octets.specs.Numbers.{little}
 use Rattle.codecs.specs.Values.{stepBytes}
 use Rattle.codecs.proofs.step_bytes.Statement.{statement}
 use Rattle.codecs.proofs.step_bytes.Tie as tie

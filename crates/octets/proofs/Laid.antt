@@ -5,7 +5,7 @@ use Prim.Native.Nat.{ℕ, zero, suc, _+_, _-_, _≤_, min}
 use native.Mathlib.Nat.{add-zero}
 use native.Mathlib.Omega.{arith}
 use lib.ListN.{length, set, take, drop, length-take, length-drop, drop-of-length-le}
-use lib.Seq.{sets, paste, sets-eq, set-out, drop-nil, take-all, take-length}
+use lib.Seq.{sets, paste, sets-eq, set-out, drop-nil, take-all, take-length, length-take-le}
 
 -- one part behind the other
 pub sets-append : (a b l : List ℕ) (i : ℕ) → sets (sets l i a) (i + length a) b ≡ sets l i (a ++ b)
@@ -39,9 +39,23 @@ pub sets-out : (l t : List ℕ) (i : ℕ) → length l ≤ i → sets l i t ≡ 
 sets-out l [] i h = refl
 sets-out l (a ∷ t) i h = ap (λ (r : List ℕ). sets r (suc i) t) (set-out l i a h) ∙ sets-out l t (suc i) (omega arith)
 
--- all, where they fit
-pub laid-whole : (l : List ℕ) (i : ℕ) (t : List ℕ) → i + length t ≤ length l → sets l i t ≡ paste l i t (length t)
-laid-whole l i t h = sets-eq t l i h ∙ ap (λ (r : List ℕ). take i l ++ r ++ drop (i + length t) l) (sym (take-length t))
+-- n of them, and all, where they fit
+pub laid-part : (l : List ℕ) (i n : ℕ) (x : List ℕ) → i + n ≤ length l → n ≤ length x → sets l i (take n x) ≡ paste l i x n
+laid-part l i n x h k =
+    let e : length (take n x) ≡ n = length-take-le n x k in
+    sets-eq (take n x) l i (omega arith) ∙ ap (λ (j : ℕ). take i l ++ take n x ++ drop (i + j) l) e
+
+pub laid-whole : (l : List ℕ) (i : ℕ) (x : List ℕ) → i + length x ≤ length l → sets l i x ≡ paste l i x (length x)
+laid-whole l i x h = ap (λ (r : List ℕ). sets l i r) (sym (take-length x)) ∙ laid-part l i (length x) x h (omega arith)
+
+-- over the whole buffer
+pub laid-over : (l x : List ℕ) → length x ≡ length l → sets l 0 x ≡ x
+laid-over l x e =
+    let z : drop (length x) l ≡ [] = drop-of-length-le l {i = length x} (omega arith) in
+    cut l x
+    ∙ ap (λ (r : List ℕ). take (length l) x ++ r) z
+    ∙ append-nil (take (length l) x)
+    ∙ take-all (length l) x (omega arith)
 
 -- what `store` leaves: k bytes fit, and are copied to the start of the part v of the room behind the place
 take-length-take : (m : ℕ) (x : List ℕ) → take (length (take m x)) x ≡ take m x

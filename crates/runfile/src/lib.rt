@@ -158,11 +158,7 @@ fn copy(body: &[u8], p: usize, memory: &mut [u8], to: usize, n: usize)
     requires { ⌜ (p + n ≤ length (now body)) × (to + n ≤ length (now memory)) ⌝ }
     ensures { λ r. ⌜ now (memory .exit) ≡ paste (now (memory .entry)) to (drop p (now (body .entry))) n ⌝ }
 {
-    let mut i: usize = 0;
-    while i < n {
-        memory[to + i] = body[p + i];
-        i += 1;
-    }
+    octets::store(memory, to, &body[p..p + n]);
 }
 
 // The memory becomes what the segments describe, whatever stood there.

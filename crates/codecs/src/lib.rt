@@ -87,17 +87,6 @@ fn put_words(out: &mut [u8], words: [u32; 8])
     }
 }
 
-fn put_all(out: &mut [u8], at: usize, bytes: &[u8])
-    requires { ⌜ at + length (now bytes) ≤ length (now out) ⌝ }
-    ensures { λ _. ⌜ now (out .exit) ≡ sets (now (out .entry)) at (now (bytes .entry)) ⌝ }
-{
-    let mut i: usize = 0;
-    while i < bytes.len() {
-        out[at + i] = bytes[i];
-        i += 1;
-    }
-}
-
 // The bytes of a state.
 pub fn state_bytes(s: Sha) -> [u8; STATE]
     ensures { λ r. ⌜ P.IsStateBytes s r ⌝ }
@@ -107,7 +96,7 @@ pub fn state_bytes(s: Sha) -> [u8; STATE]
     let total = s.total;
     let mut out = [0u8; STATE];
     put_words(&mut out, words);
-    put_all(&mut out, 32, &block);
+    octets::store(&mut out, 32, &block);
     put_number(&mut out, 96, total, 8);
     out
 }
@@ -167,29 +156,13 @@ pub fn monitor_of(bytes: &[u8]) -> Monitor
     }
 }
 
-fn glyph(d: u8) -> u8
-    requires { ⌜ d < 16 ⌝ }
-    ensures { λ r. ⌜ r ≡ D.glyph d ⌝ }
-{
-    if d < 10 { 48 + d } else { 87 + d }
-}
-
-// Stores a byte, unless its place is behind the end.
-fn put_byte(out: &mut [u8], at: usize, b: u8)
-    ensures { λ _. ⌜ now (out .exit) ≡ set (now (out .entry)) at b ⌝ }
-{
-    if at < out.len() {
-        out[at] = b;
-    }
-}
-
 // Stores a byte's two digits, as many as fit.
 fn put_digits(out: &mut [u8], at: usize, b: u8)
-    requires { ⌜ at + 1 < 2 ^ 64 ⌝ }
     ensures { λ _. ⌜ now (out .exit) ≡ sets (now (out .entry)) at (D.digits 16 2 b) ⌝ }
 {
-    put_byte(out, at, glyph(b / 16 % 16));
-    put_byte(out, at + 1, glyph(b % 16));
+    let mut text = [0u8; 16];
+    let k = io::hex(b as u64, 2, &mut text);
+    octets::store(out, at, &text[..k]);
 }
 
 // Writes the bytes' digits, as many as fit, and answers how many those are. What stands behind them stays.

@@ -14,7 +14,7 @@ fn trace(memory: &mut [u8], layout: &[u8], trace: &[u8], room: &mut [u8]) {
 }
 
 fn next(trace: &[u8], place: &[u8]) {
-    line::advanced(reader::next_at(trace, codecs::number(place) as usize));
+    line::advanced(reader::next_at(trace, octets::number(place) as usize));
 }
 
 fn judge(file: &[u8], memory: &mut [u8], room: &mut [u8]) {

@@ -14,38 +14,12 @@ use Rattle.refusal.proofs.Bytes.{bytes-take, bytes-drop}
 use Rattle.refusal.proofs.Tests.{both}
 use Rattle.refusal.specs.Choice.{pick}
 use Rattle.sha256.specs.Running.{blockOf}
-use Rattle.layout.specs.Layouts.{word}
+use Rattle.octets.specs.Numbers.{number, little}
+use Rattle.octets.proofs.Laws.{part-back, word-back}
 use Rattle.rules.specs.Steps.{bit, stepOf, encode}
-use Rattle.codecs.specs.Numbers.{number, little}
 use Rattle.codecs.specs.Values.{wordsOf, wordsBytes, stateOf, stateBytes}
 use Rattle.codecs.specs.Promises.{WritesHex}
-use Rattle.codecs.specs.Back.{BytesBack, NumberBack, StateBack, StepBack}
-
-low : (x m : ℕ) → x < 256 → (x + 256 * m) % 256 ≡ x
-low x m h = omega arith
-
-high : (x m : ℕ) → x < 256 → (x + 256 * m) / 256 ≡ m
-high x m h = omega arith
-
-pub bytes-back : BytesBack
-unfolding number little
-bytes-back [] h = refl
-bytes-back (x ∷ b) h =
-    let l : (x + 256 * number b) % 256 ≡ x = low x (number b) (h 0) in
-    let k : (x + 256 * number b) / 256 ≡ number b = high x (number b) (h 0) in
-    rw (l, k) (ap (λ (r : List ℕ). x ∷ r) (bytes-back b (λ i. h (suc i))))
-
-pub number-back : NumberBack
-unfolding number little
-number-back zero n h = omega arith
-number-back (suc k) n h =
-    let p : n < 256 * 256 ^ k = omega (arith, pow-succ' 256 k) in
-    let r : number (little k (n / 256)) ≡ n / 256 = number-back k (n / 256) (omega arith) in
-    omega arith
-
-part-back : (k : ℕ) (b : List ℕ) → Bytes b → k ≤ length b → little k (number (take k b)) ≡ take k b
-part-back k b p h =
-    ap (λ (j : ℕ). little j (number (take k b))) (sym (length-take-le k b h)) ∙ bytes-back (take k b) (bytes-take k b p)
+use Rattle.codecs.specs.Back.{StateBack, StepBack}
 
 words-back : (k : ℕ) (b : List ℕ) → Bytes b → 4 * k ≤ length b → wordsBytes (wordsOf k b) ≡ take (4 * k) b
 unfolding wordsOf wordsBytes
@@ -95,9 +69,6 @@ flags-back x h =
     let e₄ : pick (bit 4 x) 16 0 ≡ x / 16 % 2 * 16 = bit-value (x / 16 % 2) 16 (omega arith) in
     let s = halved x in
     cc (summed x (x / 2) (x / 4) (x / 8) (x / 1 % 2) (x / 2 % 2) (x / 4 % 2) (x / 8 % 2) (x / 16 % 2) (s .0) (s .1) (s .2) (halved-twice x h))
-
-word-back : (x y : ℕ) → x < 256 → y < 256 → (word x y % 256 ≡ x) × (word x y / 256 % 256 ≡ y)
-word-back x y h k = (omega arith, omega arith)
 
 twelve : (b : List ℕ) → length b ≡ 12
     → getD b 0 0 ∷ getD b 1 0 ∷ getD b 2 0 ∷ getD b 3 0 ∷ getD b 4 0 ∷ getD b 5 0 ∷ getD b 6 0 ∷ getD b 7 0 ∷ getD b 8 0 ∷ getD b 9 0 ∷ getD b 10 0 ∷ getD b 11 0 ∷ [] ≡ b

@@ -1,4 +1,3 @@
-pub mod Reading
 pub mod States
 pub mod Writing
 pub mod Laws

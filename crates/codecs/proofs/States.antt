@@ -9,17 +9,12 @@ use lib.ListN.{length, getD, take, drop, length-drop, drop-of-length-le}
 use lib.Seq.{drop-drop, take-all}
 use Rattle.sha256.specs.declared.Sha.{Sha}
 use Rattle.sha256.specs.Running.{blockOf}
-use Rattle.layout.specs.Layouts.{word}
+use Rattle.octets.specs.Numbers.{number, numberAt, word}
 use Rattle.rules.specs.declared.Monitor.{Monitor}
-use Rattle.codecs.specs.Numbers.{number}
 use Rattle.codecs.specs.Values.{wordsOf, stateOf, monitorOf}
 
--- the word from a place on
-abbrev pub wordAt : List ℕ → ℕ → ℕ
-wordAt b from = number (take 4 (drop from b))
-
 pub eight-words : (b : List ℕ)
-    → wordAt b 0 ∷ wordAt b 4 ∷ wordAt b 8 ∷ wordAt b 12 ∷ wordAt b 16 ∷ wordAt b 20 ∷ wordAt b 24 ∷ wordAt b 28 ∷ [] ≡ wordsOf 8 b
+    → numberAt b 0 4 ∷ numberAt b 4 4 ∷ numberAt b 8 4 ∷ numberAt b 12 4 ∷ numberAt b 16 4 ∷ numberAt b 20 4 ∷ numberAt b 24 4 ∷ numberAt b 28 4 ∷ [] ≡ wordsOf 8 b
 unfolding wordsOf
 eight-words b = cc (drop-drop 4 4 b, drop-drop 4 8 b, drop-drop 4 12 b, drop-drop 4 16 b, drop-drop 4 20 b, drop-drop 4 24 b)
 
@@ -30,7 +25,7 @@ no-block b h = ap blockOf (sym (drop-of-length-le b {i = 32} (omega arith)))
 pub some-block : (b : List ℕ) → blockOf (take (length b - 32) (drop 32 b)) ≡ blockOf (drop 32 b)
 some-block b = ap blockOf (take-all (length b - 32) (drop 32 b) (simp length-drop (omega arith)))
 
-pub state-is : (b w k : List ℕ) (t : ℕ) → w ≡ wordsOf 8 b → k ≡ blockOf (drop 32 b) → t ≡ number (take 8 (drop 96 b))
+pub state-is : (b w k : List ℕ) (t : ℕ) → w ≡ wordsOf 8 b → k ≡ blockOf (drop 32 b) → t ≡ numberAt b 96 8
     → _≡_ {A = Sha} (record { words = w; block = k; total = t }) (stateOf b)
 unfolding stateOf
 state-is b w k t p q s = λ i. record { words = p i; block = q i; total = s i }

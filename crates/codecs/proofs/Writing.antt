@@ -7,10 +7,12 @@ use native.Mathlib.Numerals.{add-one}
 use native.Mathlib.Omega.{arith}
 use lib.ListN.{length, getD, set, take, drop, length-append, length-take, drop-of-length-le}
 use lib.Seq.{sets, drop-cons, drop-length, take-all}
-use Rattle.io.specs.Digits.{digits, glyph}
-use Rattle.refusal.proofs.Laid.{sets-append, cut}
+use Rattle.io.specs.Digits.{digits, Fewest}
+use Rattle.octets.specs.Numbers.{little}
+use Rattle.octets.proofs.Laid.{sets-append, cut, laid-over}
+use Rattle.octets.proofs.Digits.{two-digits}
 use Rattle.sha256.specs.declared.Sha.{Sha}
-use Rattle.codecs.specs.Numbers.{little, hexText}
+use Rattle.codecs.specs.Digits.{hexText}
 use Rattle.codecs.specs.Values.{wordsBytes, stateBytes}
 use Rattle.codecs.specs.Promises.{WritesHex}
 
@@ -34,19 +36,6 @@ pub number-whole : (out goal : List ℕ) (p n k : ℕ) → k ≡ 0 → sets out 
 unfolding little
 number-whole out goal p n k z e = ap (λ (j : ℕ). sets out p (little j n)) (sym z) ∙ e
 
--- bytes
-pub bytes-none : (out b : List ℕ) (at : ℕ) → sets out (at + 0) (drop 0 b) ≡ sets out at b
-bytes-none out b at = rw add-zero
-
-pub bytes-more : (out goal b : List ℕ) (at i : ℕ) → i < length b → sets out (at + i) (drop i b) ≡ goal
-    → sets (set out (at + i) (getD b i 0)) (at + (i + 1)) (drop (i + 1) b) ≡ goal
-bytes-more out goal b at i h e =
-    let s : at + (i + 1) ≡ suc (at + i) = omega arith in
-    rw (s, add-one) (ap (λ (l : List ℕ). sets out (at + i) l) (sym (drop-cons b i 0 h)) ∙ e)
-
-pub bytes-whole : (out goal b : List ℕ) (p i : ℕ) → i ≡ length b → sets out p (drop i b) ≡ goal → out ≡ goal
-bytes-whole out goal b p i z e = ap (λ (l : List ℕ). sets out p l) (sym (ap (λ (j : ℕ). drop j b) z ∙ drop-length b)) ∙ e
-
 -- words
 pub words-more : (out out′ goal ws : List ℕ) (i : ℕ) → i < length ws → sets out (4 * i) (wordsBytes (drop i ws)) ≡ goal
     → out′ ≡ sets out (4 * i) (little 4 (getD ws i 0)) → sets out′ (4 * (i + 1)) (wordsBytes (drop (i + 1) ws)) ≡ goal
@@ -62,14 +51,11 @@ words-whole out goal ws p i z e =
     ap (λ (l : List ℕ). sets out p (wordsBytes l)) (sym (ap (λ (j : ℕ). drop j ws) z ∙ drop-length ws)) ∙ e
 
 -- two digits
-pub digits-laid : (out out₁ out₂ : List ℕ) (at b x y : ℕ) → x ≡ glyph (b / 16 % 16) → out₁ ≡ set out at x → y ≡ glyph (b % 16) → out₂ ≡ set out₁ (at + 1) y
-    → out₂ ≡ sets out at (digits 16 2 b)
-digits-laid out out₁ out₂ at b x y ex e₁ ey e₂ =
-    e₂
-    ∙ ap (λ (l : List ℕ). set l (at + 1) y) e₁
-    ∙ ap (λ (k : ℕ). set (set out at x) k y) (add-one at)
-    ∙ ap (λ (z : ℕ). set (set out at z) (suc at) y) ex
-    ∙ ap (λ (z : ℕ). set (set out at (glyph (b / 16 % 16))) (suc at) z) ey
+pub digits-laid : (out out′ t : List ℕ) (at n k : ℕ) → n < 256 → Fewest 16 2 n k → t ≡ digits 16 k n → out′ ≡ sets out at t
+    → out′ ≡ sets out at (digits 16 2 n)
+digits-laid out out′ t at n k h f e l =
+    l
+    ∙ ap (λ (x : List ℕ). sets out at x) (e ∙ ap (λ (j : ℕ). digits 16 j n) (two-digits n k h (f .0) (f .2)))
 
 -- the digits of bytes
 pub hex-more : (out out′ goal b : List ℕ) (i : ℕ) → i < length b → sets out (2 * i) (hexText (drop i b)) ≡ goal
@@ -119,10 +105,6 @@ state-laid s out out₁ out₂ out₃ nw nb lo e₁ e₂ e₃ =
     let lb : length (w ++ s .block) ≡ 96 = simp length-append (omega arith) in
     let lt : length (w ++ s .block ++ t) ≡ 104 = simp length-append (omega (arith, length-little 8 (s .total))) in
     let p₂ : out₂ ≡ sets out 0 (w ++ s .block) = e₂ ∙ part-more out out₁ (sets out 0 (w ++ s .block)) w (s .block) 0 32 refl e₁ (omega arith) in
-    let p₃ : out₃ ≡ sets out 0 (w ++ s .block ++ t) = e₃ ∙ part-more out out₂ (sets out 0 (w ++ s .block ++ t)) (w ++ s .block) t 0 96 refl p₂ (omega arith) in
-    let z : drop (length (w ++ s .block ++ t)) out ≡ [] = drop-of-length-le out {i = length (w ++ s .block ++ t)} (omega arith) in
-    p₃
-    ∙ cut out (w ++ s .block ++ t)
-    ∙ ap (λ (l : List ℕ). take (length out) (w ++ s .block ++ t) ++ l) z
-    ∙ append-nil (take (length out) (w ++ s .block ++ t))
-    ∙ take-all (length out) (w ++ s .block ++ t) (omega arith)
+    e₃
+    ∙ part-more out out₂ (sets out 0 (w ++ s .block ++ t)) (w ++ s .block) t 0 96 refl p₂ (omega arith)
+    ∙ laid-over out (w ++ s .block ++ t) (omega arith)

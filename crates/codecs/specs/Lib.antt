@@ -1,4 +1,4 @@
-pub mod Numbers
+pub mod Digits
 pub mod Values
 pub mod Promises
 pub mod Settled

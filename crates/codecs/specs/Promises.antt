@@ -7,12 +7,8 @@ use Rattle.sha256.specs.declared.Sha.{Sha}
 use Rattle.rules.specs.declared.Monitor.{Monitor}
 use Rattle.rules.specs.declared.Step.{Step}
 use Rattle.rules.specs.Steps.{encode}
-use Rattle.codecs.specs.Numbers.{number, hexText}
+use Rattle.codecs.specs.Digits.{hexText}
 use Rattle.codecs.specs.Values.{stateOf, stateBytes, monitorOf}
-
--- `number`: of the first eight bytes
-abbrev pub IsNumber : List ℕ → ℕ → Type 0
-IsNumber b r = r ≡ number (take 8 b)
 
 -- `state_of`, `state_bytes`
 abbrev pub IsState : List ℕ → Sha → Type 0

@@ -6,9 +6,8 @@ use lib.Dec.{eqb}
 use lib.ListN.{getD, take, drop}
 use Rattle.sha256.specs.declared.Sha.{Sha}
 use Rattle.sha256.specs.Running.{blockOf}
-use Rattle.layout.specs.Layouts.{word}
+use Rattle.octets.specs.Numbers.{number, little, numberAt, word}
 use Rattle.rules.specs.declared.Monitor.{Monitor}
-use Rattle.codecs.specs.Numbers.{number, little}
 
 -- k words of four bytes
 unfoldable pub wordsOf : ℕ → List ℕ → List ℕ
@@ -24,7 +23,7 @@ unfoldable pub stateOf : List ℕ → Sha
 stateOf b = record {
   words = wordsOf 8 b;
   block = blockOf (drop 32 b);
-  total = number (take 8 (drop 96 b));
+  total = numberAt b 96 8;
 }
 
 unfoldable pub stateBytes : Sha → List ℕ

@@ -8,61 +8,19 @@ ghost use lib.ListN.{length, getD, take, drop, set};
 ghost use lib.Seq.{sets};
 ghost use Rattle.io.specs.Digits as D;
 ghost use Rattle.refusal.specs.Choice as C;
+ghost use Rattle.octets.specs.Numbers as N;
 ghost use Rattle.sha256.specs.Running as R;
 ghost use Rattle.rules.specs.Steps as T;
-ghost use Rattle.codecs.specs.Numbers as N;
 ghost use Rattle.codecs.specs.Values as S;
 ghost use Rattle.codecs.specs.Promises as P;
 
 // The bytes of a state.
 pub const STATE: usize = 104;
 
-fn wide(x: u8) -> u64
-    ensures { λ r. ⌜ (r ≡ x) × (r < 256) ⌝ }
-{
-    x as u64
-}
-
-// The number that a few bytes stand for.
-fn few(bytes: &[u8]) -> u64
-    requires { ⌜ length (now bytes) ≤ 8 ⌝ }
-    ensures { λ r. ⌜ (r ≡ N.number (now (bytes .entry))) × (r < 256 ^ length (now (bytes .entry))) ⌝ }
-{
-    let mut n: u64 = 0;
-    let mut i = bytes.len();
-    while i > 0 {
-        i -= 1;
-        n = 256 * n + wide(bytes[i]);
-    }
-    n
-}
-
-// The number that the k bytes from a place on stand for, or those of them that there are.
-fn number_at(bytes: &[u8], from: usize, k: usize) -> u64
-    requires { ⌜ k ≤ 8 ⌝ }
-    ensures { λ r. ⌜ (r ≡ N.number (take k (drop from (now (bytes .entry))))) × (r < 256 ^ k) ⌝ }
-{
-    let n = bytes.len();
-    if n <= from {
-        return 0;
-    }
-    if n - from < k {
-        return few(&bytes[from..n]);
-    }
-    few(&bytes[from..from + k])
-}
-
-// The number that the first eight bytes stand for, or those of them that there are.
-pub fn number(bytes: &[u8]) -> u64
-    ensures { λ r. ⌜ P.IsNumber (now (bytes .entry)) r ⌝ }
-{
-    number_at(bytes, 0, 8)
-}
-
 fn word_at(bytes: &[u8], from: usize) -> u32
-    ensures { λ r. ⌜ r ≡ N.number (take 4 (drop from (now (bytes .entry)))) ⌝ }
+    ensures { λ r. ⌜ r ≡ N.numberAt (now (bytes .entry)) from 4 ⌝ }
 {
-    number_at(bytes, from, 4) as u32
+    octets::number_at(bytes, from, 4) as u32
 }
 
 fn words_of(bytes: &[u8]) -> [u32; 8]
@@ -95,7 +53,7 @@ pub fn state_of(bytes: &[u8]) -> Sha
 {
     let words = words_of(bytes);
     let block = block_behind_words(bytes);
-    let total = number_at(bytes, 96, 8);
+    let total = octets::number_at(bytes, 96, 8);
     Sha {
         words,
         block,
@@ -130,17 +88,6 @@ fn put_words(out: &mut [u8], words: [u32; 8])
     }
 }
 
-fn put_all(out: &mut [u8], at: usize, bytes: &[u8])
-    requires { ⌜ at + length (now bytes) ≤ length (now out) ⌝ }
-    ensures { λ _. ⌜ now (out .exit) ≡ sets (now (out .entry)) at (now (bytes .entry)) ⌝ }
-{
-    let mut i: usize = 0;
-    while i < bytes.len() {
-        out[at + i] = bytes[i];
-        i += 1;
-    }
-}
-
 // The bytes of a state.
 pub fn state_bytes(s: Sha) -> [u8; STATE]
     ensures { λ r. ⌜ P.IsStateBytes s r ⌝ }
@@ -150,7 +97,7 @@ pub fn state_bytes(s: Sha) -> [u8; STATE]
     let total = s.total;
     let mut out = [0u8; STATE];
     put_words(&mut out, words);
-    put_all(&mut out, 32, &block);
+    octets::store(&mut out, 32, &block);
     put_number(&mut out, 96, total, 8);
     out
 }
@@ -206,33 +153,17 @@ pub fn monitor_of(bytes: &[u8]) -> Monitor
 {
     Monitor {
         held: byte_at(bytes, 0) != 0,
-        last: layout::word(byte_at(bytes, 1), byte_at(bytes, 2)),
-    }
-}
-
-fn glyph(d: u8) -> u8
-    requires { ⌜ d < 16 ⌝ }
-    ensures { λ r. ⌜ r ≡ D.glyph d ⌝ }
-{
-    if d < 10 { 48 + d } else { 87 + d }
-}
-
-// Stores a byte, unless its place is behind the end.
-fn put_byte(out: &mut [u8], at: usize, b: u8)
-    ensures { λ _. ⌜ now (out .exit) ≡ set (now (out .entry)) at b ⌝ }
-{
-    if at < out.len() {
-        out[at] = b;
+        last: octets::word(byte_at(bytes, 1), byte_at(bytes, 2)),
     }
 }
 
 // Stores a byte's two digits, as many as fit.
 fn put_digits(out: &mut [u8], at: usize, b: u8)
-    requires { ⌜ at + 1 < 2 ^ 64 ⌝ }
     ensures { λ _. ⌜ now (out .exit) ≡ sets (now (out .entry)) at (D.digits 16 2 b) ⌝ }
 {
-    put_byte(out, at, glyph(b / 16 % 16));
-    put_byte(out, at + 1, glyph(b % 16));
+    let mut text = [0u8; 16];
+    let k = io::hex(b as u64, 2, &mut text);
+    octets::store(out, at, &text[..k]);
 }
 
 // Writes the bytes' digits, as many as fit, and answers how many those are. What stands behind them stays.

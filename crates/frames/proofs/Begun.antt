@@ -7,7 +7,7 @@ use native.Mathlib.Omega.{arith}
 use lib.Dec.{ltb}
 use lib.ListN.{length, take}
 use lib.Seq.{length-take-le, take-take, take-append-add}
-use Rattle.codecs.specs.Numbers.{number, little}
+use Rattle.octets.specs.Numbers.{number, little}
 use Rattle.frames.specs.declared.Framed.{Framed}
 use Rattle.frames.specs.declared.Framed.the-variants.{Needs}
 use Rattle.frames.specs.Calls.{most, allowed}

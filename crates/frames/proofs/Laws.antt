@@ -12,8 +12,8 @@ use Rattle.refusal.specs.Bytes.{Bytes}
 use Rattle.refusal.specs.Choice.{pick}
 use Rattle.refusal.proofs.Bytes.{bytes-take, bytes-drop}
 use Rattle.refusal.proofs.Tests.{cases, clash, both}
-use Rattle.codecs.specs.Numbers.{little}
-use Rattle.codecs.proofs.Laws.{bytes-back}
+use Rattle.octets.specs.Numbers.{little}
+use Rattle.octets.proofs.Laws.{bytes-back}
 use Rattle.frames.specs.declared.Framed.{Framed}
 use Rattle.frames.specs.declared.Framed.the-variants.{Needs, Whole, Cut}
 use Rattle.frames.specs.Calls.{most, counts, count, allowed}

@@ -8,8 +8,8 @@ use lib.Dec.{ltb}
 use lib.ListN.{length, getD, take, drop, length-append}
 use lib.Seq.{take-at, drop-at}
 use borrow.Author.Tests.{le-ltb}
-use Rattle.codecs.specs.Numbers.{number, little}
-use Rattle.codecs.proofs.Laws.{number-back}
+use Rattle.octets.specs.Numbers.{number, little}
+use Rattle.octets.proofs.Laws.{number-back}
 use Rattle.frames.specs.declared.Framed.{Framed}
 use Rattle.frames.specs.declared.Framed.the-variants.{Whole}
 use Rattle.frames.specs.Calls.{most, count, allowed}

@@ -10,7 +10,6 @@ use lib.ListN.{length, getD, take, drop, length-drop, length-take, drop-of-lengt
 use lib.Seq.{length-take-le, take-all, take-take, take-length, drop-drop, drop-nil}
 use borrow.Author.Tests.{lt-ltb, le-ltb, ltb-true, ltb-false, eq-eqb, ne-eqb}
 use Rattle.refusal.proofs.Tests.{cases, clash, neither}
-use Rattle.codecs.specs.Numbers.{number}
 use Rattle.frames.specs.declared.Framed.{Framed}
 use Rattle.frames.specs.declared.Framed.the-variants.{Needs, Whole, Cut}
 use Rattle.frames.specs.Calls.{most, counts, count, allowed}
@@ -36,21 +35,6 @@ not-not false e = sym e
 pub unlisted : (n : ℕ) → 15 ≤ n → 0 ≡ count n
 unfolding count
 unlisted n h = sym (List·getD-eq-default counts 0 h)
-
-module _ (b : List ℕ) (at r : ℕ) where
-  -- ---- a length is read
-
-  pub size-short : length b - at < 4 → r ≡ number (take 8 (take (length b - at) (drop at b))) → r ≡ size (drop at b)
-  size-short h e =
-      let l : length (drop at b) ≡ length b - at = length-drop at b in
-      let all : take (length b - at) (drop at b) ≡ drop at b = take-all (length b - at) (drop at b) (omega (arith, l)) in
-      e ∙ ap number (ap (take 8) all ∙ take-all 8 (drop at b) (omega (arith, l)) ∙ sym (take-all 4 (drop at b) (omega (arith, l))))
-
-  pub size-whole : r ≡ number (take 8 (take (at + 4 - at) (drop at b))) → r ≡ size (drop at b)
-  size-whole e =
-      let four : at + 4 - at ≡ 4 = omega arith in
-      e ∙ ap (λ (k : ℕ). number (take 8 (take k (drop at b)))) four
-      ∙ ap number (take-all 8 (take 4 (drop at b)) (rw length-take (omega arith)))
 
 -- ---- the place behind an argument
 

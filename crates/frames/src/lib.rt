@@ -51,14 +51,9 @@ fn allowed(number: u8, i: usize, size: usize) -> bool
 
 // The length of the argument that begins at a place.
 fn size_at(bytes: &[u8], at: usize) -> usize
-    requires { ⌜ at ≤ length (now bytes) ⌝ }
     ensures { λ r. ⌜ r ≡ F.size (drop at (now (bytes .entry))) ⌝ }
 {
-    let left = bytes.len() - at;
-    if left < 4 {
-        return codecs::number(&bytes[at..]) as usize;
-    }
-    codecs::number(&bytes[at..at + 4]) as usize
+    octets::number_at(bytes, at, 4) as usize
 }
 
 // The place behind that argument, or the end of the bytes if they end before.

@@ -10,6 +10,7 @@ use Rattle.refusal.specs.Answers.{refusedAt}
 use Rattle.refusal.specs.Numbers.{layoutSize, regionReversed, regionSize, zeroInCode, regionsShare}
 use Rattle.refusal.specs.declared.Answer.{Answer}
 use Rattle.refusal.specs.declared.Answer.the-variants.{Done}
+use Rattle.octets.specs.Numbers.{word}
 use Rattle.layout.specs.declared.Region.{Region}
 use Rattle.layout.specs.declared.Layout.{Layout}
 use Rattle.layout.specs.Regions.{within, reversed, size, shares}
@@ -39,10 +40,6 @@ CTR = 4
 
 abbrev pub AR : ℕ
 AR = 5
-
--- a 16-bit number of two bytes, little-endian
-abbrev pub word : ℕ → ℕ → ℕ
-word low high = low + 256 * high
 
 -- region number k: its lowest and its highest address
 abbrev pub region : List ℕ → ℕ → Region

@@ -62,21 +62,14 @@ impl Region {
     }
 }
 
-// A 16-bit number of two bytes, little-endian.
-pub fn word(low: u8, high: u8) -> u16
-    ensures { λ r. ⌜ r ≡ S.word low high ⌝ }
-{
-    low as u16 + 256 * (high as u16)
-}
-
 fn region_at(b: &[u8], k: usize) -> Region
     requires { ⌜ (length (now b) ≡ 24) × (k < 6) ⌝ }
     ensures { λ r. ⌜ r ≡ S.region (now (b .entry)) k ⌝ }
 {
     let at = 4 * k;
     Region {
-        lo: word(b[at], b[at + 1]),
-        hi: word(b[at + 2], b[at + 3]),
+        lo: octets::word(b[at], b[at + 1]),
+        hi: octets::word(b[at + 2], b[at + 3]),
     }
 }
 

@@ -2,4 +2,3 @@ pub mod Tests
 pub mod First
 pub mod Order
 pub mod Bytes
-pub mod Laid

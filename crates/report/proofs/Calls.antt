@@ -17,7 +17,7 @@ use Rattle.runfile.proofs.Files.{admitted}
 use Rattle.report.specs.Text.{fileText}
 use Rattle.report.specs.Writing.{Wrote, textOf, Tellable}
 use Rattle.report.specs.Promises.{Writes}
-use Rattle.refusal.proofs.Laid.{cut}
+use Rattle.octets.proofs.Laid.{cut}
 use Rattle.report.proofs.Laws.{run-text}
 
 -- the room holds the answers of a file that is judged

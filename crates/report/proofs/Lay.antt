@@ -6,7 +6,7 @@ use native.Mathlib.Numerals.{add-one}
 use native.Mathlib.Omega.{arith}
 use lib.ListN.{length, getD, set, take, drop, length-append}
 use lib.Seq.{sets, set-out, take-suc, take-length}
-use Rattle.refusal.proofs.Laid.{sets-append}
+use Rattle.octets.proofs.Laid.{sets-append}
 use Rattle.effects.specs.declared.StepAnswer.{StepAnswer}
 use Rattle.report.specs.Text.{line, lines}
 use Rattle.report.specs.Writing.{Wrote}

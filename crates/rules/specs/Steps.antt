@@ -6,7 +6,7 @@ use Prim.Native.Nat.{ℕ, _+_, _/_, _%_, _^_, _<_}
 use lib.Dec.{eqb, ltb}
 use lib.ListN.{getD}
 use Rattle.refusal.specs.Choice.{pick}
-use Rattle.layout.specs.Layouts.{word}
+use Rattle.octets.specs.Numbers.{word}
 use Rattle.rules.specs.declared.Step.{Step}
 
 -- bit k of a byte is set

@@ -49,9 +49,9 @@ pub fn decode(b: [u8; 12]) -> Step
 {
     let flags = b[6];
     Step {
-        pc: layout::word(b[0], b[1]),
-        cpu: layout::word(b[2], b[3]),
-        dma: layout::word(b[4], b[5]),
+        pc: octets::word(b[0], b[1]),
+        cpu: octets::word(b[2], b[3]),
+        dma: octets::word(b[4], b[5]),
         reads: (flags >> 0) % 2 == 1,
         writes: (flags >> 1) % 2 == 1,
         interrupt: (flags >> 2) % 2 == 1,

@@ -16,7 +16,7 @@ use Rattle.refusal.specs.declared.Answer.the-variants.{Done}
 use Rattle.refusal.proofs.Tests.{neither}
 use Rattle.refusal.proofs.First.{first-most, none-found}
 use Rattle.refusal.proofs.Order.{done-passed}
-use Rattle.layout.specs.Layouts.{word}
+use Rattle.octets.specs.Numbers.{word}
 use Rattle.layout.specs.Calls.{memoryBytes}
 use Rattle.runfile.specs.Segments.{headSize, startAt, sizeAt, place, reached, segments, failsAt, segmentFails, firstWrong, segmentCheck, image, described}
 use Rattle.runfile.proofs.Lists.{paste-in, paste-below, paste-above}

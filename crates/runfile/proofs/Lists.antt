@@ -1,19 +1,17 @@
--- A part of one list laid into another: one turn of a copy, and the bytes that then stand there. Assumes nothing.
+-- A part of one list laid into another, and the bytes that then stand there. Assumes nothing.
 use mathlib.Core.Path.{_≡_, ap, sym, _∙_}
 use mathlib.Core.List.{List, _++_, append-nil}
 use Prim.Native.Nat.{ℕ, _+_, _-_, _≤_, _<_}
 use native.Mathlib.Omega.{arith}
-use native.Mathlib.Numerals.{add-one}
-use lib.ListN.{length, getD, set, take, drop, replicate, length-drop, List·getD-append}
-use lib.Seq.{paste, paste-suc, length-paste-head, getD-append-add, getD-take, getD-drop, length-take-le, drop-length}
+use lib.ListN.{length, getD, take, drop, replicate, length-drop, List·getD-append}
+use lib.Seq.{paste, sets, length-paste-head, getD-append-add, getD-take, getD-drop, length-take-le, drop-length}
+use Rattle.octets.proofs.Laid.{laid-part}
 
-pub copied : (d₀ d s : List ℕ) (from to n i : ℕ) → i < n → from + n ≤ length s → to + n ≤ length d₀
-    → d ≡ paste d₀ to (drop from s) i → set d (to + i) (getD s (from + i) 0) ≡ paste d₀ to (drop from s) (i + 1)
-copied d₀ d s from to n i h hs hd e =
-    ap (λ (m : List ℕ). set m (to + i) (getD s (from + i) 0)) e
-    ∙ ap (λ (v : ℕ). set (paste d₀ to (drop from s) i) (to + i) v) (sym (getD-drop from s i 0))
-    ∙ paste-suc d₀ to (drop from s) i 0 (omega arith) (simp length-drop (omega arith))
-    ∙ ap (paste d₀ to (drop from s)) (sym (add-one i))
+pub pasted : (d s : List ℕ) (from to n : ℕ) → from + n ≤ length s → to + n ≤ length d
+    → sets d to (take (from + n - from) (drop from s)) ≡ paste d to (drop from s) n
+pasted d s from to n hs hd =
+    let e : from + n - from ≡ n = omega arith in
+    ap (λ (k : ℕ). sets d to (take k (drop from s))) e ∙ laid-part d to n (drop from s) hd (simp length-drop (omega arith))
 
 -- all of a list is filled
 pub filled : (d₀ d : List ℕ) (v i : ℕ) → i ≡ length d₀ → d ≡ replicate i v ++ drop i d₀ → d ≡ replicate (length d₀) v

@@ -3,7 +3,8 @@ use mathlib.Core.Bool.{Bool, not, _&&_, _||_}
 use mathlib.Core.List.{List}
 use Prim.Native.Nat.{ℕ, zero, suc, _+_, _*_}
 use lib.Dec.{eqb, ltb}
-use lib.ListN.{length, getD, take, drop}
+use lib.ListN.{length, take, drop}
+use Rattle.octets.specs.Numbers.{numberAt}
 use Rattle.refusal.specs.Choice.{pick}
 use Rattle.refusal.specs.First.{first}
 use Rattle.refusal.specs.Answers.{refusedAt}
@@ -36,16 +37,12 @@ TRACE = 2
 abbrev pub layoutBytes : ℕ
 layoutBytes = 24
 
--- a 32-bit number at a place, little-endian
-abbrev pub long : List ℕ → ℕ → ℕ
-long f p = getD f p 0 + 256 * getD f (p + 1) 0 + 65536 * getD f (p + 2) 0 + 16777216 * getD f (p + 3) 0
-
--- the offset and the length that entry k names
+-- the offset and the length that entry k names, each in four bytes
 abbrev pub offset : List ℕ → ℕ → ℕ
-offset f k = long f (8 * k)
+offset f k = numberAt f (8 * k) 4
 
 abbrev pub size : List ℕ → ℕ → ℕ
-size f k = long f (8 * k + 4)
+size f k = numberAt f (8 * k + 4) 4
 
 -- bodies follow in that order from byte 24 without gaps
 unfoldable pub begins : List ℕ → ℕ → ℕ

@@ -11,7 +11,7 @@ use Rattle.refusal.specs.Answers.{refusedAt}
 use Rattle.refusal.specs.Numbers.{segment}
 use Rattle.refusal.specs.declared.Answer.{Answer}
 use Rattle.refusal.specs.declared.Answer.the-variants.{Done}
-use Rattle.layout.specs.Layouts.{word}
+use Rattle.octets.specs.Numbers.{word}
 use Rattle.layout.specs.Calls.{memoryBytes}
 
 -- a segment's bytes before its contents: start (2) and length (2)

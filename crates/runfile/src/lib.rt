@@ -7,6 +7,7 @@ ghost use mathlib.Core.Path.{_≡_};
 ghost use Prim.Native.Nat.{_+_, _-_, _*_, _≤_, _<_};
 ghost use lib.ListN.{length, drop, replicate};
 ghost use lib.Seq.{paste};
+ghost use Rattle.octets.specs.Numbers.{numberAt};
 ghost use Rattle.refusal.specs.Answers.{row, andThen};
 ghost use Rattle.layout.specs.Calls.{memoryBytes};
 ghost use Rattle.monitor.specs.Promises.{traceCheck};
@@ -30,18 +31,11 @@ const SEGMENTS: usize = 48;
 // A segment's bytes before its contents.
 const HEAD: usize = 4;
 
-fn wide(x: u8) -> usize
-    ensures { λ r. ⌜ (r ≡ x) × (r < 256) ⌝ }
-{
-    x as usize
-}
-
 // A 32-bit number, little-endian.
 fn long_at(b: &[u8], p: usize) -> usize
-    requires { ⌜ p + 4 ≤ length (now b) ⌝ }
-    ensures { λ r. ⌜ (r ≡ C.long (now (b .entry)) p) × (r < 4294967296) ⌝ }
+    ensures { λ r. ⌜ (r ≡ numberAt (now (b .entry)) p 4) × (r < 4294967296) ⌝ }
 {
-    wide(b[p]) + 256 * wide(b[p + 1]) + 65536 * wide(b[p + 2]) + 16777216 * wide(b[p + 3])
+    octets::number_at(b, p, 4) as usize
 }
 
 // A 16-bit number, little-endian.
@@ -49,12 +43,12 @@ fn word_at(b: &[u8], p: usize) -> usize
     requires { ⌜ p + 2 ≤ length (now b) ⌝ }
     ensures { λ r. ⌜ (r ≡ S.startAt (now (b .entry)) p) × (r < 65536) ⌝ }
 {
-    wide(b[p]) + 256 * wide(b[p + 1])
+    octets::word(b[p], b[p + 1]) as usize
 }
 
 // Entry k fails, where its body has to begin at `begin`. No sum here is over 2^33.
 fn fails_from(file: &[u8], k: usize, begin: usize) -> bool
-    requires { ⌜ (C.contentsSize ≤ length (now file)) × (k < C.entries) × (begin ≤ length (now file)) × (length (now file) ≤ C.mostBytes) ⌝ }
+    requires { ⌜ (k < C.entries) × (begin ≤ length (now file)) × (length (now file) ≤ C.mostBytes) ⌝ }
     ensures { λ r. ⌜ r ≡ C.failsFrom (now (file .entry)) k begin ⌝ }
 {
     let n = file.len();
@@ -164,11 +158,7 @@ fn copy(body: &[u8], p: usize, memory: &mut [u8], to: usize, n: usize)
     requires { ⌜ (p + n ≤ length (now body)) × (to + n ≤ length (now memory)) ⌝ }
     ensures { λ r. ⌜ now (memory .exit) ≡ paste (now (memory .entry)) to (drop p (now (body .entry))) n ⌝ }
 {
-    let mut i: usize = 0;
-    while i < n {
-        memory[to + i] = body[p + i];
-        i += 1;
-    }
+    octets::store(memory, to, &body[p..p + n]);
 }
 
 // The memory becomes what the segments describe, whatever stood there.

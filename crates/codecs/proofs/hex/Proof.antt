@@ -5,7 +5,7 @@ use Prim.Native.Nat.{_*_, _-_, _≤_}
 use native.Mathlib.Omega.{arith}
 use lib.ListN.{length, drop}
 use lib.Seq.{sets}
-use Rattle.codecs.specs.Numbers.{hexText}
+use Rattle.codecs.specs.Digits.{hexText}
 use Rattle.codecs.proofs.Writing.{hex-more, hex-whole}
 use Rattle.codecs.proofs.hex.Statement.{statement}
 use Rattle.codecs.proofs.hex.Tie as tie

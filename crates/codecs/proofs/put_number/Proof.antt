@@ -5,7 +5,7 @@ use Prim.Native.Nat.{_+_}
 use native.Mathlib.Omega.{arith}
 use lib.ListN.{length, length-set}
 use lib.Seq.{sets}
-use Rattle.codecs.specs.Numbers.{little}
+use Rattle.octets.specs.Numbers.{little}
 use Rattle.codecs.proofs.Writing.{number-more, number-whole}
 use Rattle.codecs.proofs.put_number.Statement.{statement}
 use Rattle.codecs.proofs.put_number.Tie as tie

@@ -13,17 +13,14 @@ slice-aggregate-put-words c = search needs
 put-words-requires : tie.Need-put-words-requires
 put-words-requires c κs = search needs
 
-slice-aggregate-put-all : tie.Need-slice-aggregate-put-all
-slice-aggregate-put-all c = search needs
+slice-aggregate-store : tie.Need-slice-aggregate-store
+slice-aggregate-store c = search needs
 
-slice-aggregate-put-all-2 : tie.Need-slice-aggregate-put-all-2
-slice-aggregate-put-all-2 c = search needs
+slice-aggregate-store-2 : tie.Need-slice-aggregate-store-2
+slice-aggregate-store-2 c = search needs
 
-put-all-requires : tie.Need-put-all-requires
-put-all-requires c κs =
-    let z = c .before .before .before .before .before .before .before .args in
-    let l : length (z .s .block) ≡ 64 = search needs in
-    omega (arith, c .before .before .before .put-words .kept .0)
+store-requires : tie.Need-store-requires
+store-requires c κs = search needs
 
 slice-aggregate-put-number : tie.Need-slice-aggregate-put-number
 slice-aggregate-put-number c = search needs
@@ -34,7 +31,7 @@ put-number-requires c κs = search needs
 returns : tie.Need-returns
 returns c =
     let z = c .before .before .before .before .before .before .before .before .before .before .before .before .args in
-    state-laid (z .s) _ _ _ _ (search needs) (search needs) refl (c .before .before .before .before .before .before .before .before .put-words .ensures) (c .before .before .before .before .put-all .ensures) (c .before .put-number .ensures)
+    state-laid (z .s) _ _ _ _ (search needs) (search needs) refl (c .before .before .before .before .before .before .before .before .put-words .ensures) (c .before .before .before .before .store .ensures) (c .before .put-number .ensures)
 
 pub state-bytes-spec : {M : Type 1} → statement M
 state-bytes-spec =
@@ -42,9 +39,9 @@ state-bytes-spec =
     (tie.spec
     slice-aggregate-put-words
     put-words-requires
-    slice-aggregate-put-all
-    slice-aggregate-put-all-2
-    put-all-requires
+    slice-aggregate-store
+    slice-aggregate-store-2
+    store-requires
     slice-aggregate-put-number
     put-number-requires
     returns)

@@ -16,7 +16,7 @@ number-at-requires c κs = search needs
 returns : tie.Need-returns
 returns c =
     state-is (c .before .before .before .before .args .bytes .now) _ _ _
-    (c .before .before .words-of .ensures) (c .before .block-behind-words .ensures) (c .number-at .ensures .0)
+    (c .before .before .words-of .ensures) (c .before .block-behind-words .ensures) (c .number-at .ensures .value)
 
 pub state-of-spec : {M : Type 1} → statement M
 state-of-spec =

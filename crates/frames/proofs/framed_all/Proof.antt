@@ -26,7 +26,7 @@ returns c =
     walked-stop _ _ _ _ _ _ _ (c .before .before .before .before .loop .inv) (omega arith) (c .before .before .framed-one .ensures) (unwhole _ (c .before .before .framed-one .result) (c .before .is-whole .ensures) (c .if1 .taken))
 
 size-at-requires : tie.Need-size-at-requires Inv-loop μ-loop
-size-at-requires c κs = c .before .before .before .before .loop .inv .inside
+size-at-requires c κs = search needs
 
 add-used : tie.Need-add-used Inv-loop μ-loop
 add-used c =

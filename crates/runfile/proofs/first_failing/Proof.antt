@@ -1,4 +1,5 @@
 -- `runfile::first_failing` meets its contract. Assumes nothing.
+use borrow.Author.Needs.{needs}
 use Prim.Native.Nat.{_-_}
 use mathlib.Core.Path.{sym, _∙_}
 use native.Mathlib.Omega.{arith}
@@ -20,7 +21,7 @@ loop-holds : tie.Need-loop-holds Inv-loop μ-loop
 loop-holds c = none _ (c .if1 .left)
 
 fails-from-requires : tie.Need-fails-from-requires Inv-loop μ-loop
-fails-from-requires c κs = (omega arith, omega arith, c .before .loop .inv .within, omega arith)
+fails-from-requires c κs = (omega arith, c .before .loop .inv .within, omega arith)
 
 returns-2 : tie.Need-returns-2 Inv-loop μ-loop
 returns-2 c =
@@ -34,7 +35,7 @@ add-long-at : tie.Need-add-long-at Inv-loop μ-loop
 add-long-at c = omega arith
 
 long-at-requires : tie.Need-long-at-requires Inv-loop μ-loop
-long-at-requires c κs = omega arith
+long-at-requires c κs = search needs
 
 add-begin : tie.Need-add-begin Inv-loop μ-loop
 add-begin c = omega arith

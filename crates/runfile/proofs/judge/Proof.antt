@@ -14,9 +14,7 @@ enum-told : tie.Need-enum-told
 enum-told c = search needs
 
 long-at-requires : tie.Need-long-at-requires
-long-at-requires c κs =
-    let h = c .before .before .before .before .before .before .args in
-    omega (arith, passed (h .file .now) _ (c .before .before .check-contents .ensures) (c .enum-told .given .1))
+long-at-requires c κs = search needs
 
 add-e : tie.Need-add-e
 add-e c = search needs

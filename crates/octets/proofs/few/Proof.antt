@@ -1,9 +1,9 @@
--- `codecs::few` meets its contract. Assumes nothing.
+-- `octets::few` meets its contract. Assumes nothing.
 use borrow.Author.Needs.{needs}
 use native.Mathlib.Omega.{arith}
-use Rattle.codecs.proofs.Reading.{ReadFrom, read-none, read-more, read-whole, fits-more}
-use Rattle.codecs.proofs.few.Statement.{statement}
-use Rattle.codecs.proofs.few.Tie as tie
+use Rattle.octets.proofs.Reading.{ReadFrom, read-none, read-more, read-whole, fits-more}
+use Rattle.octets.proofs.few.Statement.{statement}
+use Rattle.octets.proofs.few.Tie as tie
 
 abbrev Inv-loop : tie.InvT-loop
 Inv-loop bytes n₀ i₀ n i = ReadFrom bytes i n

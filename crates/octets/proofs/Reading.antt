@@ -1,13 +1,14 @@
 -- Bytes read as numbers. Assumes nothing.
 use mathlib.Core.Path.{_≡_, ap, sym, subst, _∙_}
 use mathlib.Core.List.{List}
-use Prim.Native.Nat.{ℕ, suc, _+_, _-_, _*_, _^_, _≤_, _<_}
+use Prim.Native.Nat.{ℕ, suc, _+_, _-_, _*_, _^_, _≤_, _<_, min}
 use native.Mathlib.Nat.{one-le-pow, pow-succ', pow-le-pow-right}
 use native.Mathlib.Numerals.{add-one}
 use native.Mathlib.Omega.{arith}
 use lib.ListN.{length, getD, take, drop, length-take, length-drop, drop-of-length-le}
 use lib.Seq.{drop-cons, drop-length, take-nil, take-all}
-use Rattle.codecs.specs.Numbers.{number}
+use Rattle.octets.specs.Numbers.{number, numberAt}
+use Rattle.octets.specs.Promises.{ReadsNumber}
 
 -- n is the number of the bytes from i on, and as small as they are few
 pub record ReadFrom (l : List ℕ) (i n : ℕ) : Type 0 where
@@ -84,3 +85,10 @@ pub at-all : (b : List ℕ) (from k r : ℕ)
 at-all b from k r p =
     let e : from + k - from ≡ k = omega arith in
     part-read (take (from + k - from) (drop from b)) (drop from b) k r (ap (λ (n : ℕ). take n (drop from b)) e) p
+
+-- over eight count as eight
+pub reads-at : (b : List ℕ) (from k m r : ℕ) → m ≡ min k 8 → (r ≡ numberAt b from m) × (r < 256 ^ m) → ReadsNumber b from k r
+reads-at b from k m r e (v, s) = record {
+  value = v ∙ ap (numberAt b from) e;
+  small = subst (λ (j : ℕ). r < 256 ^ j) e s;
+}

@@ -1,8 +1,8 @@
--- `codecs::number_at` meets its contract. Assumes nothing.
+-- `octets::few_at` meets its contract. Assumes nothing.
 use borrow.Author.Needs.{needs}
-use Rattle.codecs.proofs.Reading.{at-none, at-some, at-all}
-use Rattle.codecs.proofs.number_at.Statement.{statement}
-use Rattle.codecs.proofs.number_at.Tie as tie
+use Rattle.octets.proofs.Reading.{at-none, at-some, at-all}
+use Rattle.octets.proofs.few_at.Statement.{statement}
+use Rattle.octets.proofs.few_at.Tie as tie
 
 returns : tie.Need-returns
 returns c = at-none _ _ _ (c .if1 .taken)
@@ -47,8 +47,8 @@ returns-3 c =
     let a = c .before .before .before .before .before .args in
     at-all (a .bytes .now) (a .from) (a .k) (c .few2 .result) (c .few2 .ensures)
 
-pub number-at-spec : {M : Type 1} → statement M
-number-at-spec =
+pub few-at-spec : {M : Type 1} → statement M
+few-at-spec =
     tie.close
     (tie.spec
     returns

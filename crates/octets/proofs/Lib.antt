@@ -1,0 +1,4 @@
+pub mod Laid
+pub mod Reading
+pub mod Laws
+pub mod Digits

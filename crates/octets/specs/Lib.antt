@@ -1,0 +1,4 @@
+pub mod Numbers
+pub mod Promises
+pub mod Settled
+pub mod Back

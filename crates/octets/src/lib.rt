@@ -1,0 +1,82 @@
+// Bytes as numbers, and bytes stored at a place. Numbers have their lightest byte first.
+ghost use mathlib.Core.Path.{_≡_};
+ghost use Prim.Native.Nat.{_^_, _≤_, _<_, min};
+ghost use lib.ListN.{length};
+ghost use Rattle.octets.specs.Numbers as N;
+ghost use Rattle.octets.specs.Promises as P;
+
+// The most bytes of a number.
+const MOST: usize = 8;
+
+// The number of two bytes.
+pub fn word(low: u8, high: u8) -> u16
+    ensures { λ r. ⌜ P.IsWord low high r ⌝ }
+{
+    low as u16 + 256 * (high as u16)
+}
+
+fn wide(x: u8) -> u64
+    ensures { λ r. ⌜ (r ≡ x) × (r < 256) ⌝ }
+{
+    x as u64
+}
+
+// The number that a few bytes stand for.
+fn few(bytes: &[u8]) -> u64
+    requires { ⌜ length (now bytes) ≤ 8 ⌝ }
+    ensures { λ r. ⌜ (r ≡ N.number (now (bytes .entry))) × (r < 256 ^ length (now (bytes .entry))) ⌝ }
+{
+    let mut n: u64 = 0;
+    let mut i = bytes.len();
+    while i > 0 {
+        i -= 1;
+        n = 256 * n + wide(bytes[i]);
+    }
+    n
+}
+
+// The number that a few bytes from a place on stand for, or those of them that there are.
+fn few_at(bytes: &[u8], from: usize, k: usize) -> u64
+    requires { ⌜ k ≤ 8 ⌝ }
+    ensures { λ r. ⌜ (r ≡ N.numberAt (now (bytes .entry)) from k) × (r < 256 ^ k) ⌝ }
+{
+    let n = bytes.len();
+    if n <= from {
+        return 0;
+    }
+    if n - from < k {
+        return few(&bytes[from..n]);
+    }
+    few(&bytes[from..from + k])
+}
+
+fn least(a: usize, b: usize) -> usize
+    ensures { λ r. ⌜ r ≡ min a b ⌝ }
+{
+    if a < b { a } else { b }
+}
+
+// The number that k bytes from a place on stand for, or those of them that there are. Over eight count as eight.
+pub fn number_at(bytes: &[u8], from: usize, k: usize) -> u64
+    ensures { λ r. ⌜ P.ReadsNumber (now (bytes .entry)) from k r ⌝ }
+{
+    few_at(bytes, from, least(k, MOST))
+}
+
+// The number that the first eight bytes stand for, or those of them that there are.
+pub fn number(bytes: &[u8]) -> u64
+    ensures { λ r. ⌜ P.IsNumber (now (bytes .entry)) r ⌝ }
+{
+    few_at(bytes, 0, MOST)
+}
+
+// Stores bytes in the room from a place on, as many as fit. What stands beside them stays.
+pub fn store(room: &mut [u8], at: usize, x: &[u8])
+    ensures { λ _. ⌜ P.Stores (now (room .entry)) at (now (x .entry)) (now (room .exit)) ⌝ }
+{
+    if room.len() <= at {
+        return;
+    }
+    let k = least(room.len() - at, x.len());
+    bytes::copy(&x[..k], &mut room[at..]);
+}

@@ -38,13 +38,8 @@ pub part-back : (k : ℕ) (b : List ℕ) → Bytes b → k ≤ length b → litt
 part-back k b p h =
     ap (λ (j : ℕ). little j (number (take k b))) (sym (length-take-le k b h)) ∙ bytes-back (take k b) (bytes-take k b p)
 
-pub word-back : (x y : ℕ) → x < 256 → y < 256 → little 2 (word x y) ≡ x ∷ y ∷ []
-unfolding little
-word-back x y h k =
-    let l : word x y % 256 ≡ x = low x y h in
-    let m : word x y / 256 ≡ y = high x y h in
-    let n : y % 256 ≡ y = omega arith in
-    cc
+pub word-back : (x y : ℕ) → x < 256 → y < 256 → (word x y % 256 ≡ x) × (word x y / 256 % 256 ≡ y)
+word-back x y h k = (low x y h, omega arith)
 
 first-two : (l : List ℕ) → number (take 2 l) ≡ word (getD l 0 0) (getD l 1 0)
 unfolding number

@@ -12,7 +12,7 @@ use Rattle.refusal.proofs.First.{first-most, first-least, first-is, first-none}
 use Rattle.refusal.proofs.Tests.{cases, clash}
 use Rattle.layout.specs.declared.Layout.{Layout}
 use Rattle.layout.specs.Regions.{within}
-use Rattle.layout.specs.Layouts.{word}
+use Rattle.octets.specs.Numbers.{word}
 use Rattle.rules.specs.declared.Step.{Step}
 use Rattle.rules.specs.declared.Monitor.{Monitor}
 use Rattle.rules.specs.declared.Broken.{Broken}

@@ -79,7 +79,7 @@ encoded-fits t n room h r =
     let u : (i : ℕ) → i < n → unclean (encoded t n) i ≡ false = λ i k. simp (encoded-bytes t n i k, clean-encode (t i)) in
     simp (c, w, le-ltb mostSteps n h, le-ltb room (answerSize * n) r, found-none n (unclean (encoded t n)) u)
 
--- ---- the trace's addresses
+-- ---- addresses of 16 bits
 
 code-small : (b : List ℕ) → Bytes b → (layoutOf b .cr .lo < memoryBytes) × (layoutOf b .cr .hi < memoryBytes)
 unfolding layoutOf

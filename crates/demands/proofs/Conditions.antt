@@ -237,3 +237,8 @@ answers-told {R} {row} {refuse} {cs} {a} Kept v r w o f h e kept =
 -- what is lent to a call that is refused
 pub lent-kept : {a : Answer} {q : Refusal} (new old : List ℕ) → a ≡ Refused q → lent a new old ≡ old
 lent-kept {a} {q} new old e = ap (λ (x : Answer). lent x new old) e
+
+-- what holds of the new and of the old holds of what is lent, refused or not
+pub lent-either : (P : (List ℕ → List ℕ → List ℕ) → Type 0) (a : Answer) → P (λ new old. new) → P (λ new old. old) → P (lent a)
+lent-either P Done p q = p
+lent-either P (Refused r) p q = q

@@ -7,10 +7,9 @@ use native.Mathlib.Nat.{add-zero}
 use native.Mathlib.Omega.{arith}
 use lib.ListN.{length, getD}
 use Rattle.refusal.specs.Bytes.{Bytes}
-use Rattle.refusal.specs.Answers.{lent}
 use Rattle.refusal.specs.Settled.{row-settled}
 use Rattle.refusal.specs.declared.Answer.{Answer}
-use Rattle.refusal.specs.declared.Answer.the-variants.{Done, Refused}
+use Rattle.refusal.specs.declared.Answer.the-variants.{Done}
 use Rattle.refusal.proofs.Tests.{cases, clash}
 use Rattle.layout.specs.declared.Region.{Region}
 use Rattle.layout.specs.declared.Layout.{Layout}
@@ -35,6 +34,7 @@ use Rattle.station.specs.Promises.{checkUnfit, ChecksReply}
 use Rattle.station.proofs.Laws.{token-fits, lengths-fit, fit-lengths, said-yes, says-yes, said-no, says-no, said-refused, says-refused}
 use Rattle.demands.specs.Demand2 as claim
 use Rattle.demands.specs.Demand2.{SameRequest, Agrees, posted}
+use Rattle.demands.proofs.Conditions.{lent-either}
 use Rattle.demands.proofs.Accepts.{Accepts, accepts}
 use Rattle.demands.proofs.Posted.{request-is, request-done}
 
@@ -76,14 +76,10 @@ pub forged-refused : claim.ForgedRefused
 forged-refused memory layout memory′ r p long good g n =
     request-refused memory layout memory′ r _ p long good (request-forged _ _ _ _ g (λ e. n (sym e ∙ token-is _ _)))
 
-lent-bytes : (a : Answer) (new old : List ℕ) → Bytes new → Bytes old → Bytes (lent a new old)
-lent-bytes Done new old p q = p
-lent-bytes (Refused r) new old p q = q
-
 pub stores-bytes : claim.StoresBytes
 stores-bytes memory layout memory′ r b p =
-    subst Bytes (sym (p .memory-left))
-    (lent-bytes (attestCheck memory layout) (accepted (layoutOf layout) memory) memory (board.bytes-accepted (layoutOf layout) memory b) b)
+    let l = layoutOf layout in
+    rw (p .memory-left) (lent-either (λ f. Bytes (f (accepted l memory) memory)) (attestCheck memory layout) (board.bytes-accepted l memory b) b)
 
 -- ---- frame
 

@@ -118,35 +118,29 @@ module _ (l : Layout) (s t : ℕ → Step) (x y : State) (g : Together l x y) wh
         rw (sym (r .monitors)) (answer-unseen l (s k) (t k) (e k h) (before l s x k .monitor) a b (r .memories))
 
 -- what each step tells makes up the whole
-module _ (l : Layout) (s t : ℕ → Step) (x y : State) where
-  answers-same : (n : ℕ) → ((k : ℕ) → k < n → said l s x k ≡ said l t y k) → answers l s x n ≡ answers l t y n
-  unfolding answers
-  answers-same zero f = refl
-  answers-same (suc n) f =
-      let r = answers-same n (λ k h. f k (omega arith)) in
-      let d = f n (omega arith) in
-      rw (r, d)
-
-  resetting-same : (n : ℕ)
-      → ((k : ℕ) → k < n → cause l (before l s x k .monitor) (s k) ≡ cause l (before l t y k .monitor) (t k))
-      → resetting l s x n ≡ resetting l t y n
-  unfolding resetting
-  resetting-same zero f = refl
-  resetting-same (suc n) f =
-      let r = resetting-same n (λ k h. f k (omega arith)) in
-      let d = f n (omega arith) in
-      rw (r, d)
+whole-same : (l : Layout) (s t : ℕ → Step) (x y : State) (n : ℕ)
+    → ((k : ℕ) → k < n → said l s x k ≡ said l t y k)
+    → ((k : ℕ) → k < n → cause l (before l s x k .monitor) (s k) ≡ cause l (before l t y k .monitor) (t k))
+    → (answers l s x n ≡ answers l t y n) × (resetting l s x n ≡ resetting l t y n)
+unfolding answers resetting
+whole-same l s t x y zero f g = (refl, refl)
+whole-same l s t x y (suc n) f g =
+    let r = whole-same l s t x y n (λ k h. f k (omega arith)) (λ k h. g k (omega arith)) in
+    let d = f n (omega arith) in
+    let e = g n (omega arith) in
+    (rw (r .0, d), rw (r .1, e))
 
 unseen : (l : Layout) (s t : ℕ → Step) (x y : State) (n : ℕ) → Together l x y → SameSteps l s t n → Unseen l s t x y n
 unseen l s t x y n g e =
     let r = together l s t x y g n e in
     let causes = cause-at l s t x y g n e in
     let each = said-at l s t x y g n e in
+    let whole = whole-same l s t x y n each causes in
     record {
       causes = causes;
       each = each;
-      answered = answers-same l s t x y n each;
-      counted = resetting-same l s t x y n causes;
+      answered = whole .0;
+      counted = whole .1;
       monitors = r .monitors;
       memories = r .memories;
     }

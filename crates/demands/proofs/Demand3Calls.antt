@@ -7,20 +7,21 @@ use native.Mathlib.Omega.{arith}
 use lib.Dec.{eqb}
 use lib.ListN.{length, getD}
 use Rattle.refusal.specs.Choice.{pick}
-use Rattle.refusal.specs.Answers.{told, lent}
+use Rattle.refusal.specs.Answers.{told}
 use Rattle.refusal.specs.declared.Answer.{Answer}
-use Rattle.refusal.specs.declared.Answer.the-variants.{Done, Refused}
 use Rattle.refusal.proofs.First.{first-same}
 use Rattle.refusal.proofs.Tests.{cases}
 use Rattle.layout.specs.declared.Layout.{Layout}
 use Rattle.layout.specs.Layouts.{layoutOf}
 use Rattle.layout.specs.Calls.{callCheck}
 use Rattle.rules.specs.Steps.{stepOf, clean}
+use Rattle.monitor.specs.Effects.{written}
 use Rattle.monitor.specs.Runs.{stepSize, count, stepBytes, steps, begin, before, memoryAfter}
 use Rattle.monitor.specs.Promises.{unclean, traceCheck, stepCheck}
 use Rattle.monitor.specs.Settled.{traced-row-settled, stepped-row-settled}
 use Rattle.monitor.proofs.Laws.{step-byte}
 use Rattle.demands.specs.Demand3.{Agree, scratch, with, blank, cpuData, SameTrace, EitherTells, Demand3Calls, Demand3Steps}
+use Rattle.demands.proofs.Conditions.{lent-either}
 use Rattle.demands.proofs.Demand3.{next-same, written-agree, answer-unseen, demand-3-runs}
 
 -- ---- the steps of two traces
@@ -102,10 +103,6 @@ call-check-same : (l : Layout) (x y layout : List ℕ) (a a′ : Answer) → Agr
     → callCheck x layout a ≡ callCheck y layout a′
 call-check-same l x y layout a a′ g e = simp (g .long, e)
 
-lent-agree : (l : Layout) (a : Answer) {x y x′ y′ : List ℕ} → Agree l x′ y′ → Agree l x y → Agree l (lent a x′ x) (lent a y′ y)
-lent-agree l Done g h = g
-lent-agree l (Refused r) g h = h
-
 -- ---- the calls
 
 pub demand-3-calls : Demand3Calls
@@ -120,7 +117,7 @@ demand-3-calls layout b c room x y x′ y′ room₁ room₂ r q g h p p′ =
     record {
       told = traced-row-settled r q (rw (p .answered, p′ .answered, sym e, sym n, u .counted));
       rooms = rw (p .room-left, p′ .room-left, sym e, sym n, u .answered);
-      memories = rw (p .memory-left, p′ .memory-left, sym e) (lent-agree l (callCheck x layout check) v g);
+      memories = rw (p .memory-left, p′ .memory-left, sym e) (lent-either (λ f. Agree l (f (memoryAfter l b x) x) (f (memoryAfter l c y) y)) (callCheck x layout check) v g);
     }
 
 pub demand-3-steps : Demand3Steps
@@ -136,5 +133,5 @@ demand-3-steps layout b c m room x y x′ y′ room₁ room₂ r q g h p p′ =
       rooms = rw (p .room-left, p′ .room-left, sym e, answer-unseen l s t d m x y g);
       memories =
           rw (p .memory-left, p′ .memory-left, sym e)
-          (lent-agree l (callCheck x layout check) (written-agree l s t d m x y g) g);
+          (lent-either (λ f. Agree l (f (written l m s x) x) (f (written l m t y) y)) (callCheck x layout check) (written-agree l s t d m x y g) g);
     }

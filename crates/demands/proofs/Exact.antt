@@ -14,14 +14,15 @@ use Rattle.layout.specs.Regions.{within, outside}
 use Rattle.rules.specs.Rules.{cause, start}
 use Rattle.effects.specs.declared.StepAnswer.{StepAnswer}
 use Rattle.effects.specs.Effects.{exposing, answer}
-use Rattle.demands.specs.Demand3.{look, Demand3Exact}
+use Rattle.demands.specs.Marked.{dmaReads}
+use Rattle.demands.specs.Demand3.{Demand3Exact}
 
 module _ (l : Layout) (k : ℕ) (kr : outside (l .kr) k ≡ true) (xs : outside (l .xs) k ≡ true) where
-  look-passes : cause l start (look k) ≡ 0
+  look-passes : cause l start (dmaReads 0 k) ≡ 0
   unfolding cause first
   look-passes = simp (and-false, not-true (within (l .kr) k) kr, not-true (within (l .xs) k) xs)
 
-  look-shows : (x : List ℕ) → answer l start (look k) x .dma ≡ getD x k 0
+  look-shows : (x : List ℕ) → answer l start (dmaReads 0 k) x .dma ≡ getD x k 0
   unfolding answer exposing
   look-shows x = simp look-passes
 
@@ -29,7 +30,7 @@ module _ (l : Layout) (k : ℕ) (kr : outside (l .kr) k ≡ true) (xs : outside 
 behind : (x y : List ℕ) (k : ℕ) → length x ≡ length y → length x ≤ k → getD x k 0 ≡ getD y k 0
 behind x y k e h = List·getD-eq-default x 0 h ∙ sym (List·getD-eq-default y 0 (omega arith))
 
-shown : (l : Layout) (x y : List ℕ) (k : ℕ) → answer l start (look k) x ≡ answer l start (look k) y
+shown : (l : Layout) (x y : List ℕ) (k : ℕ) → answer l start (dmaReads 0 k) x ≡ answer l start (dmaReads 0 k) y
     → outside (l .kr) k ≡ true → outside (l .xs) k ≡ true → getD x k 0 ≡ getD y k 0
 shown l x y k e kr xs = sym (look-shows l k kr xs x) ∙ ap (λ (a : StepAnswer). a .dma) e ∙ look-shows l k kr xs y
 

@@ -35,6 +35,7 @@ use Rattle.demands.specs.Traces.{remembers, byteAt}
 use Rattle.demands.specs.Demand2.{posted}
 use Rattle.demands.specs.History as claim
 use Rattle.demands.specs.History.{Event, attest, trace, change, Keeps, storesCounter, Happens, History, Accepted, counterAt}
+use Rattle.demands.proofs.Conditions.{lent-either}
 use Rattle.demands.proofs.Accepts.{accepts}
 use Rattle.demands.proofs.Posted.{request-is, request-keeps, request-done}
 use Rattle.demands.proofs.Traces.{length-kept, stays-through, rom, guarded}
@@ -66,9 +67,9 @@ run-keeps l t x n f =
 
 -- a call that keeps them where it is not refused keeps them
 lent-keeps : (l : Layout) (a : Answer) (x y z : List ℕ) → z ≡ lent a y x → Keeps l x y → Keeps l x z
-lent-keeps l Done x y z e k = subst (λ (m : List ℕ). Keeps l x m) (sym e) k
-lent-keeps l (Refused r) x y z e k =
-    record { long = ap length e; code = simp e; key = simp e; counter = simp e }
+lent-keeps l a x y z e k =
+    subst (Keeps l x) (sym e)
+    (lent-either (λ f. Keeps l x (f y x)) a k (record { long = refl; code = refl; key = refl; counter = refl }))
 
 pub trace-keeps : claim.TraceKeeps
 trace-keeps memory layout b room memory′ room′ r t f =

@@ -9,7 +9,7 @@ use lib.Seq.{getD-set-other}
 use Rattle.refusal.specs.Choice.{pick}
 use Rattle.refusal.proofs.Tests.{cases}
 use Rattle.layout.specs.declared.Layout.{Layout}
-use Rattle.layout.specs.Regions.{within, outside}
+use Rattle.layout.specs.Regions.{within}
 use Rattle.effects.specs.Effects.{lands, stored}
 use Rattle.demands.specs.Demand3.{Agree}
 
@@ -30,14 +30,17 @@ getD-set-both (p ∷ x) (q ∷ y) (suc a) v (suc k) n e = getD-set-both x y a v 
 
 -- a byte at an address, the same in both unless the address is in XS
 module _ (l : Layout) (x y : List ℕ) (g : Agree l x y) (a v w : ℕ) (f : within (l .xs) a ≡ false → v ≡ w) where
-  set-same : (k : ℕ) → outside (l .kr) k ≡ true → outside (l .xs) k ≡ true → getD (set x a v) k 0 ≡ getD (set y a w) k 0
-  set-same k kr xs =
-      cases (within (l .xs) a)
-      (λ h.
-      let e : k ≡ a → ⊥ = λ e. false≢true (simp (e, h) at xs) in
-      getD-set-other x a k v 0 e ∙ g .same k kr xs ∙ sym (getD-set-other y a k w 0 e))
-      (λ h. rw (← f h) (getD-set-both x y a v k (g .long) (g .same k kr xs)))
+  set-agree : Agree l (set x a v) (set y a w)
+  set-agree = record {
+    long = simp length-set (g .long);
+    same = λ k kr xs.
+        cases (within (l .xs) a)
+        (λ h.
+        let e : k ≡ a → ⊥ = λ e. false≢true (simp (e, h) at xs) in
+        getD-set-other x a k v 0 e ∙ g .same k kr xs ∙ sym (getD-set-other y a k w 0 e))
+        (λ h. rw (← f h) (getD-set-both x y a v k (g .long) (g .same k kr xs)));
+  }
 
   pub stored-agree : (on : Bool) → Agree l (stored l on a v x) (stored l on a w y)
   unfolding stored
-  stored-agree on = pick-agree l (lands l on a) (record { long = simp length-set (g .long); same = set-same }) g
+  stored-agree on = pick-agree l (lands l on a) set-agree g

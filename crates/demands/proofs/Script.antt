@@ -40,13 +40,13 @@ use Rattle.board.proofs.Laws.{bytes-due}
 use Rattle.demands.specs.Traces.{remembers, causeAt, InParts}
 use Rattle.demands.specs.Marked.{at}
 use Rattle.demands.specs.Script as claim
-use Rattle.demands.specs.Visit.{Free, Plays, storeAt, storeByte, played}
+use Rattle.demands.specs.Visit.{Free, Plays, storeAt, storeByte}
 use Rattle.demands.specs.Script.{encoded, scripted, script}
 use Rattle.monitor.proofs.Runs.{Alike, alike}
 use Rattle.demands.proofs.Accepts.{Accepts, accepts}
 use Rattle.demands.proofs.Runs.{in-parts}
 use Rattle.demands.proofs.Traces.{joined-before, release}
-use Rattle.demands.proofs.Visit.{visit-passes, leaves-freely, visit-attests, can-be-played}
+use Rattle.demands.proofs.Visit.{visit-passes, leaves-freely, visit-attests, plays-so}
 
 -- ---- a trace's bytes
 
@@ -79,7 +79,7 @@ encoded-fits t n room h r =
     let u : (i : ℕ) → i < n → unclean (encoded t n) i ≡ false = λ i k. simp (encoded-bytes t n i k, clean-encode (t i)) in
     simp (c, w, le-ltb mostSteps n h, le-ltb room (answerSize * n) r, found-none n (unclean (encoded t n)) u)
 
--- ---- the trace's addresses
+-- ---- addresses of 16 bits
 
 code-small : (b : List ℕ) → Bytes b → (layoutOf b .cr .lo < memoryBytes) × (layoutOf b .cr .hi < memoryBytes)
 unfolding layoutOf
@@ -107,21 +107,6 @@ keeps-memory : (l : Layout) (m : Monitor) (s : Step) (memory : List ℕ) → cau
     → written l m s memory ≡ memory
 unfolding written storing stored
 keeps-memory l m s memory e d w = simp (e, d, w)
-
-plays-alike : (l : Layout) (memory : List ℕ) (t u : ℕ → Step) → ((i : ℕ) → i < 64 → t i ≡ u i) → Plays l memory u → Plays l memory t
-plays-alike l memory t u f p =
-    record {
-      visit =
-          record {
-            some = omega arith;
-            enters = ap (λ (s : Step). s .pc) (f 0 (omega arith)) ∙ p .visit .enters;
-            each = λ i k. rw (f i k) (p .visit .each i k);
-            ends = ap (λ (s : Step). s .pc) (f 63 (omega arith)) ∙ p .visit .ends;
-          };
-      writes = λ i k. ap (λ (s : Step). s .writes) (f i k) ∙ p .writes i k;
-      address = λ i k. ap (λ (s : Step). s .cpu) (f i k) ∙ p .address i k;
-      byte = λ i k. ap (λ (s : Step). s .cpudata) (f i k) ∙ p .byte i k;
-    }
 
 -- what stands after the first step, with PC 0
 abbrev released : List ℕ → State
@@ -171,8 +156,7 @@ module _ (memory layout memory′ : List ℕ) (h : Bytes layout) (a : Attests me
   free-first = record { unheld = refl; outside = zero-outside layout (call .allowed .laid) }
 
   plays-rest : Plays ly memory rest
-  plays-rest =
-      plays-alike ly memory rest (played ly memory) (λ i k. simp (lt-ltb i 64 k)) (can-be-played memory layout memory′ h a)
+  plays-rest = plays-so memory layout memory′ h a rest (λ i k. simp (lt-ltb i 64 k))
 
   -- no step of the rest resets
   rest-passes : (i : ℕ) → i < 65 → causeAt ly rest (released memory) i ≡ 0

@@ -33,7 +33,7 @@ use Rattle.board.proofs.Stores.{sets-more}
 use Rattle.board.proofs.Laws.{length-due, length-challenge}
 use Rattle.demands.specs.Traces.{crOrKr, remembers, causeAt}
 use Rattle.demands.specs.Visit as claim
-use Rattle.demands.specs.Visit.{Inside, Free, Plays, storeAt, storeByte, writing}
+use Rattle.demands.specs.Visit.{Inside, Free, Plays, storeAt, storeByte, writing, played}
 use Rattle.demands.proofs.Accepts.{Accepts, accepts}
 
 -- ---- steps that pass
@@ -199,8 +199,10 @@ allows : (l : Layout) (a : ℕ) → mrOrCtr l a → writable l a ≡ true
 allows l a (inl e) = simp (e, or-true)
 allows l a (inr e) = simp (e, or-true)
 
-pub can-be-played : claim.CanBePlayed
-can-be-played memory layout memory′ h a =
+-- steps that are those of `played`
+pub plays-so : (memory layout memory′ : List ℕ) → Bytes layout → Attests memory layout memory′ Done → (t : ℕ → Step)
+    → ((i : ℕ) → i < 64 → t i ≡ played (layoutOf layout) memory i) → Plays (layoutOf layout) memory t
+plays-so memory layout memory′ h a t f =
     let l = layoutOf layout in
     let w = accepts memory layout memory′ h a in
     let c = code-ends layout (w .good) in
@@ -208,20 +210,23 @@ can-be-played memory layout memory′ h a =
       visit =
           record {
             some = omega arith;
-            enters = refl;
+            enters = ap (λ (s : Step). s .pc) (f 0 (omega arith));
             each = λ i k.
-                record {
+                rw (f i k) (record {
                   pc = cases (eqb i 63) (λ e. simp e (c .1)) (λ e. simp e (c .0));
                   calm = refl;
                   idle = refl;
                   writes = λ e. allows l (storeAt l i) (store-in l (w .lies) i k);
-                };
-            ends = refl;
+                });
+            ends = ap (λ (s : Step). s .pc) (f 63 (omega arith));
           };
-      writes = λ i k. refl;
-      address = λ i k. refl;
-      byte = λ i k. refl;
+      writes = λ i k. ap (λ (s : Step). s .writes) (f i k);
+      address = λ i k. ap (λ (s : Step). s .cpu) (f i k);
+      byte = λ i k. ap (λ (s : Step). s .cpudata) (f i k);
     }
+
+pub can-be-played : claim.CanBePlayed
+can-be-played memory layout memory′ h a = plays-so memory layout memory′ h a (played (layoutOf layout) memory) (λ i k. refl)
 
 -- ---- the attestation code's stores into CTR
 

@@ -18,6 +18,7 @@ use Rattle.monitor.specs.declared.Traced.{Traced}
 use Rattle.effects.specs.Effects.{answer}
 use Rattle.monitor.specs.Runs.{stepSize, steps, State, begin, before, said, answers, resetting}
 use Rattle.monitor.specs.Promises.{Steps, Traces}
+use Rattle.demands.specs.Marked.{dmaReads}
 
 -- ---- what may differ
 
@@ -82,26 +83,11 @@ FromAny =
 
 -- ---- and only that may differ
 
--- the step with PC 0 in which the DMA reads at address k
-abbrev pub look : ℕ → Step
-look k = record {
-  pc = 0;
-  cpu = 0;
-  dma = k;
-  reads = false;
-  writes = false;
-  interrupt = false;
-  active = true;
-  stores = false;
-  cpudata = 0;
-  dmadata = 0;
-}
-
--- two memories of one length agree, if no such step tells them apart at the monitor's start
+-- two memories of one length agree, if no step with PC 0 in which the DMA reads tells them apart at the monitor's start
 abbrev pub Demand3Exact : Type 0
 Demand3Exact =
     (l : Layout) (x y : List ℕ) → length x ≡ length y
-    → ((k : ℕ) → k < length x → answer l start (look k) x ≡ answer l start (look k) y) → Agree l x y
+    → ((k : ℕ) → k < length x → answer l start (dmaReads 0 k) x ≡ answer l start (dmaReads 0 k) y) → Agree l x y
 
 -- ---- calls, on bytes
 

@@ -12,7 +12,7 @@ pub two-digits : (n k : ℕ) → n < 256 → 2 ≤ k → (2 < k → 16 ^ (k - 1)
 two-digits n k h l f =
     cases (ltb 2 k)
     (λ t.
-      let m : 2 < k = ltb-true 2 k t in
-      let p : 16 ^ 2 ≤ 16 ^ (k - 1) = pow-le-pow-right {n = 16} (omega arith) {i = 2} {j = k - 1} (omega arith) in
-      absurd (omega (arith, f m)))
+    let m : 2 < k = ltb-true 2 k t in
+    let p : 16 ^ 2 ≤ 16 ^ (k - 1) = pow-le-pow-right {n = 16} (omega arith) {i = 2} {j = k - 1} (omega arith) in
+    absurd (omega (arith, f m)))
     (λ t. omega (arith, ltb-false 2 k t))

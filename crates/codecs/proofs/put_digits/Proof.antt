@@ -4,16 +4,22 @@ use native.Mathlib.Omega.{arith}
 use Rattle.codecs.proofs.Writing.{digits-laid}
 use Rattle.codecs.proofs.put_digits.Statement.{statement}
 use Rattle.codecs.proofs.put_digits.Tie as tie
+
 hex-requires : tie.Need-hex-requires
 hex-requires c κs = search needs
+
 array-share-prefix-text : tie.Need-array-share-prefix-text
 array-share-prefix-text c = search needs
+
 slice-aggregate-store : tie.Need-slice-aggregate-store
 slice-aggregate-store c = search needs
+
 store-requires : tie.Need-store-requires
 store-requires c κs = search needs
+
 same-length : tie.Need-same-length
 same-length c = search needs
+
 returns : tie.Need-returns
 returns c =
     let a = c .before .before .before .before .before .before .before .before .args in

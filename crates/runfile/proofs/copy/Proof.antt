@@ -5,18 +5,25 @@ use native.Mathlib.Omega.{arith}
 use Rattle.runfile.proofs.Lists.{pasted}
 use Rattle.runfile.proofs.copy.Statement.{statement}
 use Rattle.runfile.proofs.copy.Tie as tie
+
 add-store : tie.Need-add-store
 add-store c = search needs
+
 sub-store : tie.Need-sub-store
 sub-store c = search needs
+
 part-store-start : tie.Need-part-store-start
 part-store-start c = search needs
+
 part-store-end : tie.Need-part-store-end
 part-store-end c = search needs
+
 store-requires : tie.Need-store-requires
 store-requires c κs = search needs
+
 same-length : tie.Need-same-length
 same-length c = search needs
+
 returns : tie.Need-returns
 returns c =
     let a = c .before .before .before .before .before .before .before .args in

@@ -1,4 +1,3 @@
 pub mod Stores
 pub mod Laws
-pub mod Copies
 pub mod Attests

@@ -6,7 +6,6 @@ use refusal::Answer;
 ghost use mathlib.Core.Path.{_≡_};
 ghost use Prim.Native.Nat.{_+_, _≤_, _<_};
 ghost use lib.ListN.{length};
-ghost use lib.Seq.{sets};
 ghost use Rattle.refusal.specs.Answers.{row, lent};
 ghost use Rattle.layout.specs.Regions.{size};
 ghost use Rattle.layout.specs.Calls.{memoryBytes};
@@ -79,25 +78,9 @@ fn copy(memory: &[u8], a: usize) -> [u8; 32]
     requires { ⌜ a + 32 ≤ length (now memory) ⌝ }
     ensures { λ r. ⌜ r ≡ M.bytesAt a 32 (now (memory .entry)) ⌝ }
 {
-    let mut x = [0u8; 32];
-    let mut i = 0;
-    while i < STRING {
-        x[i] = memory[a + i];
-        i += 1;
-    }
+    let mut x = [0u8; STRING];
+    octets::store(&mut x, 0, string(memory, a));
     x
-}
-
-// 32 bytes stored into the memory.
-fn store(memory: &mut [u8], a: usize, x: &[u8])
-    requires { ⌜ (a + 32 ≤ length (now memory)) × (length (now x) ≡ 32) ⌝ }
-    ensures { λ r. ⌜ now (memory .exit) ≡ sets (now (memory .entry)) a (now (x .entry)) ⌝ }
-{
-    let mut i = 0;
-    while i < STRING {
-        memory[a + i] = x[i];
-        i += 1;
-    }
 }
 
 // Step 3: the reply is stored, and CTR becomes the challenge. The token that came is T.
@@ -110,8 +93,8 @@ fn accept(memory: &mut [u8], l: Layout)
     let counter = lowest(l.ctr);
     let challenge = copy(memory, mail);
     let due = reply(memory, l);
-    store(memory, mail + 2 * STRING, &due);
-    store(memory, counter, &challenge);
+    octets::store(memory, mail + 2 * STRING, &due);
+    octets::store(memory, counter, &challenge);
 }
 
 // The routine: steps 1 and 2 and, if they refuse nothing, step 3.

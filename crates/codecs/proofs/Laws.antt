@@ -1,16 +1,15 @@
 -- Nothing is lost: the laws of specs/Back.antt. Assumes nothing.
-use mathlib.Core.Path.{_≡_, refl, ap, sym, _∙_}
+use mathlib.Core.Path.{_≡_, refl, ap, _∙_}
 use mathlib.Core.Bool.{_&&_}
 use mathlib.Core.List.{List, [], _∷_, _++_, append-nil}
-use Prim.Native.Nat.{ℕ, zero, suc, _+_, _-_, _*_, _/_, _%_, _^_, _≤_, _<_}
-use native.Mathlib.Nat.{pow-succ'}
+use Prim.Native.Nat.{ℕ, zero, suc, _+_, _-_, _*_, _/_, _%_, _≤_, _<_}
 use native.Mathlib.Omega.{arith}
 use borrow.Author.Tests.{ltb-true, eqb-true}
 use lib.Dec.{eqb, ltb}
 use lib.ListN.{length, getD, take, drop, replicate, length-append, length-drop, drop-of-length-le}
-use lib.Seq.{drop-cons, take-add, take-all, length-take-le}
+use lib.Seq.{drop-cons, take-add, take-all}
 use Rattle.refusal.specs.Bytes.{Bytes}
-use Rattle.refusal.proofs.Bytes.{bytes-take, bytes-drop}
+use Rattle.refusal.proofs.Bytes.{bytes-drop}
 use Rattle.refusal.proofs.Tests.{both}
 use Rattle.refusal.specs.Choice.{pick}
 use Rattle.sha256.specs.Running.{blockOf}

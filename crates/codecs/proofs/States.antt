@@ -9,7 +9,7 @@ use lib.ListN.{length, getD, take, drop, length-drop, drop-of-length-le}
 use lib.Seq.{drop-drop, take-all}
 use Rattle.sha256.specs.declared.Sha.{Sha}
 use Rattle.sha256.specs.Running.{blockOf}
-use Rattle.octets.specs.Numbers.{number, numberAt, word}
+use Rattle.octets.specs.Numbers.{numberAt, word}
 use Rattle.rules.specs.declared.Monitor.{Monitor}
 use Rattle.codecs.specs.Values.{wordsOf, stateOf, monitorOf}
 

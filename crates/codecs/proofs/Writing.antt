@@ -1,12 +1,11 @@
 -- Bytes laid into a buffer. Of a loop that lays them, `goal` is the buffer that what is still to be laid leads to. Assumes nothing.
 use mathlib.Core.Path.{_≡_, refl, ap, sym, _∙_}
-use mathlib.Core.List.{List, [], _∷_, _++_, append-nil}
+use mathlib.Core.List.{List, [], _∷_, _++_}
 use Prim.Native.Nat.{ℕ, zero, suc, _+_, _-_, _*_, _/_, _%_, _<_, min}
-use native.Mathlib.Nat.{add-zero}
 use native.Mathlib.Numerals.{add-one}
 use native.Mathlib.Omega.{arith}
-use lib.ListN.{length, getD, set, take, drop, length-append, length-take, drop-of-length-le}
-use lib.Seq.{sets, drop-cons, drop-length, take-all}
+use lib.ListN.{length, getD, set, drop, length-append, length-take}
+use lib.Seq.{sets, drop-cons, drop-length}
 use Rattle.io.specs.Digits.{digits, Fewest}
 use Rattle.octets.specs.Numbers.{little}
 use Rattle.octets.proofs.Laid.{sets-append, cut, laid-over}

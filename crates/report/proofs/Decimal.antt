@@ -40,6 +40,10 @@ unfolding decimal
 spelled n k o o′ t at r f h e w =
     subst (λ (s : List ℕ). Wrote o o′ at s r) (e ∙ ap (λ (m : ℕ). digits 10 m n) (places-are n k f h)) w
 
+-- and that of a byte its two hexadecimal digits
+pub spelled-hex : (n k : ℕ) (o o′ t : List ℕ) (at r : ℕ) → k ≡ 2 → t ≡ digits 16 k n → Wrote o o′ at t r → Wrote o o′ at (digits 16 2 n) r
+spelled-hex n k o o′ t at r h e w = subst (λ (s : List ℕ). Wrote o o′ at s r) (e ∙ ap (λ (m : ℕ). digits 16 m n) h) w
+
 -- a 64-bit number has at most 20 digits
 pub twenty : (n k : ℕ) → Fewest 10 1 n k → n < 18446744073709551616 → k ≤ 20
 twenty n k f h =

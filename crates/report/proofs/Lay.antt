@@ -1,11 +1,11 @@
 -- Texts laid into a buffer one behind the other. Assumes nothing.
 use mathlib.Core.Path.{_≡_, refl, ap, sym, subst, _∙_}
 use mathlib.Core.List.{List, [], _∷_, _++_}
-use Prim.Native.Nat.{ℕ, suc, _+_, _≤_, _<_}
+use Prim.Native.Nat.{ℕ, _+_, _≤_}
 use native.Mathlib.Numerals.{add-one}
 use native.Mathlib.Omega.{arith}
-use lib.ListN.{length, getD, set, take, drop, length-append}
-use lib.Seq.{sets, set-out, take-suc, take-length}
+use lib.ListN.{length, set, length-append}
+use lib.Seq.{sets, set-out}
 use Rattle.octets.proofs.Laid.{sets-append}
 use Rattle.effects.specs.declared.StepAnswer.{StepAnswer}
 use Rattle.report.specs.Text.{line, lines}
@@ -32,18 +32,6 @@ stored out at b = record { next = refl; laid = refl }
 
 pub dropped : (out : List ℕ) (at b : ℕ) → length out ≤ at → Wrote out out at (b ∷ []) (at + 1)
 dropped out at b h = record { next = refl; laid = sym (set-out out at b h) }
-
--- one byte more of a text, and all of its bytes
-pub byte-more : (o₀ o o′ s : List ℕ) (at i r : ℕ) → i < length s → Wrote o₀ o at (take i s) (at + i)
-    → Wrote o o′ (at + i) (getD s i 0 ∷ []) r → Wrote o₀ o′ at (take (i + 1) s) (at + (i + 1))
-byte-more o₀ o o′ s at i r h v w =
-    let n : r ≡ at + (i + 1) = omega (arith, w .next) in
-    rw (add-one, take-suc s i 0 h)
-    (subst (λ (k : ℕ). Wrote o₀ o′ at (take i s ++ (getD s i 0 ∷ [])) k) (n ∙ ap (λ (k : ℕ). at + k) (add-one i)) (then v w))
-
-pub bytes-whole : (o o′ s : List ℕ) (at i : ℕ) → i ≡ length s → Wrote o o′ at (take i s) (at + i) → Wrote o o′ at s (at + i)
-bytes-whole o o′ s at i e v =
-    subst (λ (t : List ℕ). Wrote o o′ at t (at + i)) (ap (λ (n : ℕ). take n s) e ∙ take-length s) v
 
 -- one line more, and all of them
 pub line-more : (answer : ℕ → StepAnswer) (a : StepAnswer) (o₀ o o′ : List ℕ) (from at i r : ℕ) → a ≡ answer i

@@ -10,7 +10,7 @@ ghost use mathlib.Core.Path.{_≡_};
 ghost use mathlib.Core.List.{[], _∷_};
 ghost use Prim.Native.Nat.{_+_, _*_, _≤_, _<_};
 ghost use lib.ListN.{length};
-ghost use Rattle.io.specs.Digits.{glyph as Digits·glyph};
+ghost use Rattle.io.specs.Digits.{digits};
 ghost use Rattle.report.specs.Text as T;
 ghost use Rattle.report.specs.Writing as W;
 ghost use Rattle.report.specs.Promises as P;
@@ -33,12 +33,8 @@ fn put_all(out: &mut [u8], at: usize, text: &[u8]) -> usize
     requires { ⌜ (at ≤ 900000) × (length (now text) ≤ 100) ⌝ }
     ensures { λ r. ⌜ W.Wrote (now (out .entry)) (now (out .exit)) at (now (text .entry)) r ⌝ }
 {
-    let mut i: usize = 0;
-    while i < text.len() {
-        put_byte(out, at + i, text[i]);
-        i += 1;
-    }
-    at + i
+    octets::store(out, at, text);
+    at + text.len()
 }
 
 fn put_decimal(out: &mut [u8], at: usize, n: u64) -> usize
@@ -50,21 +46,23 @@ fn put_decimal(out: &mut [u8], at: usize, n: u64) -> usize
     put_all(out, at, &digits[..k])
 }
 
-fn glyph(d: u8) -> u8
-    requires { ⌜ d < 16 ⌝ }
-    ensures { λ r. ⌜ r ≡ Digits·glyph d ⌝ }
+// A byte in two hexadecimal digits.
+fn put_hex(out: &mut [u8], at: usize, b: u8) -> usize
+    requires { ⌜ at ≤ 900000 ⌝ }
+    ensures { λ r. ⌜ W.Wrote (now (out .entry)) (now (out .exit)) at (digits 16 2 b) r ⌝ }
 {
-    if d < 10 { 48 + d } else { 87 + d }
+    let mut text = [0u8; 16];
+    let k = io::hex(b as u64, 2, &mut text);
+    put_all(out, at, &text[..k])
 }
 
-// A byte in two hexadecimal digits, or `-` where it is not exposed.
+// A byte, or `-` where it is not exposed.
 fn put_shown(out: &mut [u8], at: usize, exposed: bool, b: u8) -> usize
     requires { ⌜ at ≤ 900000 ⌝ }
     ensures { λ r. ⌜ W.Wrote (now (out .entry)) (now (out .exit)) at (T.shown exposed b) r × (r ≤ at + 2) ⌝ }
 {
     if exposed {
-        let next = put_byte(out, at, glyph(b / 16 % 16));
-        put_byte(out, next, glyph(b % 16))
+        put_hex(out, at, b)
     } else {
         put_byte(out, at, b'-')
     }

@@ -4,7 +4,7 @@ use monitor::Traced;
 use refusal::Answer;
 use refusal::Refusal;
 ghost use mathlib.Core.Path.{_≡_};
-ghost use Prim.Native.Nat.{_+_, _-_, _*_, _≤_, _<_};
+ghost use Prim.Native.Nat.{_+_, _*_, _≤_, _<_};
 ghost use lib.ListN.{length, drop, replicate};
 ghost use lib.Seq.{paste};
 ghost use Rattle.octets.specs.Numbers.{numberAt};

@@ -6,7 +6,6 @@ use native.Mathlib.Numerals.{add-one, unary-clauses}
 use native.Mathlib.Nat.{not-suc-le-zero, le-of-suc-le-suc}
 use native.Mathlib.Omega.{arith}
 use lib.ListN.{length, getD, take, drop, set, length-set, replicate}
-use lib.Seq.{paste, paste-suc}
 use Rattle.sha256_block.specs.Words.{bytes}
 use Rattle.sha256_block.proofs.Lists.{grown}
 use Rattle.sha256.specs.Hash.{out}
@@ -20,11 +19,6 @@ pub drop-replicate : (k n x : ℕ) → k ≤ n → drop k (replicate n x) ≡ re
 drop-replicate zero n x h = simp unary-clauses
 drop-replicate (suc k) zero x h = absurd (not-suc-le-zero h)
 drop-replicate (suc k) (suc n) x h = simp unary-clauses (drop-replicate k n x (le-of-suc-le-suc h))
-
--- a turn of the loop that copies x
-pub copy-more : (d x b : List ℕ) (at i : ℕ) → at + i < length d → i < length x → b ≡ paste d at x i
-    → set b (at + i) (getD x i 0) ≡ paste d at x (i + 1)
-copy-more d x b at i hd hx e = rw (add-one, e) (paste-suc d at x i 0 hd hx)
 
 -- four elements stored behind the first k
 grown-4 : (l p : List ℕ) (k a b c d : ℕ) → k + 3 < length l → take k l ≡ p

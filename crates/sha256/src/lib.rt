@@ -76,11 +76,7 @@ fn copy(room: &mut [u8], at: usize, x: &[u8])
     requires { ⌜ at + length (now x) ≤ length (now room) ⌝ }
     ensures { λ _. ⌜ now (room .exit) ≡ paste (now (room .entry)) at (now (x .entry)) (length (now (x .entry))) ⌝ }
 {
-    let mut i = 0;
-    while i < x.len() {
-        room[at + i] = x[i];
-        i += 1;
-    }
+    octets::store(room, at, x);
 }
 
 // The block with the bytes x stored from at on.

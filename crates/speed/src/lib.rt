@@ -14,11 +14,7 @@ fn store(bytes: &[u8], room: &mut [u8])
     if room.len() < 32 {
         return;
     }
-    let mut i = 0;
-    while i < 32 {
-        room[i] = bytes[i];
-        i += 1;
-    }
+    octets::store(room, 0, bytes);
 }
 
 // Stores the bytes that `hash` answers.

@@ -1,8 +1,6 @@
 -- `codecs::state_bytes` meets its contract. Assumes nothing.
 use borrow.Author.Needs.{needs}
-use mathlib.Core.Path.{_≡_, refl}
-use native.Mathlib.Omega.{arith}
-use lib.ListN.{length}
+use mathlib.Core.Path.{refl}
 use Rattle.codecs.proofs.Writing.{state-laid}
 use Rattle.codecs.proofs.state_bytes.Statement.{statement}
 use Rattle.codecs.proofs.state_bytes.Tie as tie

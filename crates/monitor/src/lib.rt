@@ -45,20 +45,13 @@ fn step_bytes(b: &[u8], n: usize) -> [u8; 12]
     ensures { λ r. ⌜ r ≡ R.stepBytes (now (b .entry)) n ⌝ }
 {
     let p = STEP * n;
-    [
-        b[p],
-        b[p + 1],
-        b[p + 2],
-        b[p + 3],
-        b[p + 4],
-        b[p + 5],
-        b[p + 6],
-        b[p + 7],
-        b[p + 8],
-        b[p + 9],
-        b[p + 10],
-        b[p + 11],
-    ]
+    let mut r = [0u8; 12];
+    let mut k: usize = 0;
+    while k < STEP {
+        r[k] = b[p + k];
+        k += 1;
+    }
+    r
 }
 
 // The same of any step: zeros if the trace has none with this number.
@@ -104,7 +97,14 @@ fn one_if(resets: bool) -> usize
 }
 
 // Step i of a trace: its stores, and its answer at its place of the room.
-fn run_step(l: Layout, m: Monitor, trace: &[u8], i: usize, memory: &mut [u8], room: &mut [u8]) -> Judged
+fn run_step(
+    l: Layout,
+    m: Monitor,
+    trace: &[u8],
+    i: usize,
+    memory: &mut [u8],
+    room: &mut [u8],
+) -> Judged
     requires { ⌜ (R.stepSize * i + R.stepSize ≤ length (now trace)) × (R.answerSize * i + R.answerSize ≤ length (now room)) ⌝ }
     ensures { λ r. ⌜ Acts l m (R.steps (now (trace .entry)) i) (now (memory .entry)) (now (memory .exit)) r
         × (now (room .exit) ≡ take (R.answerSize * i) (now (room .entry)) ++ E.bytes (r .answer) ++ drop (R.answerSize * i + R.answerSize) (now (room .entry))) ⌝ }
@@ -186,13 +186,7 @@ fn step_fits(step: &[u8], room: usize) -> Answer
     if step.len() != STEP {
         return refusal::refused(refusal::TRACE_SIZE);
     }
-    if room < ANSWER {
-        return refusal::refused(refusal::ROOM_SIZE);
-    }
-    if !rules::clean(step_bytes(step, 0)) {
-        return refusal::refused(refusal::STEP_NOT_ZERO);
-    }
-    Answer::Done
+    fits(step, room)
 }
 
 // Judges a trace on lent memory, from the monitor's start, and puts four answer bytes a step into the room.

@@ -8,7 +8,7 @@ use Rattle.monitor.proofs.run_step.Statement.{statement}
 use Rattle.monitor.proofs.run_step.Tie as tie
 
 step-bytes-requires : tie.Need-step-bytes-requires
-step-bytes-requires c κs = c .before .before .before .pre .0
+step-bytes-requires c κs = omega arith
 
 decode-requires : tie.Need-decode-requires
 decode-requires c κs = tt

@@ -15,7 +15,7 @@ use Rattle.layout.specs.declared.Layout.{Layout}
 use Rattle.layout.specs.Layouts.{layoutOf}
 use Rattle.layout.specs.Calls.{callCheck}
 use Rattle.rules.specs.Steps.{stepOf, clean}
-use Rattle.monitor.specs.Effects.{written}
+use Rattle.effects.specs.Effects.{written}
 use Rattle.monitor.specs.Runs.{stepSize, count, stepBytes, steps, begin, before, memoryAfter}
 use Rattle.monitor.specs.Promises.{unclean, traceCheck, stepCheck}
 use Rattle.monitor.specs.Settled.{traced-row-settled, stepped-row-settled}

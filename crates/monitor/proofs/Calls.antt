@@ -1,7 +1,8 @@
 -- The calls on plain variables: what their checks have passed, and what follows from a run or a refusal. Assumes nothing.
-use mathlib.Core.Path.{_≡_, subst}
+use mathlib.Core.Path.{_≡_, ap, subst, _∙_}
 use mathlib.Core.List.{List, _++_}
 use Prim.Native.Nat.{ℕ, _*_, _≤_, _<_}
+use native.Mathlib.Omega.{arith}
 use lib.ListN.{length, drop}
 use borrow.Author.Tests.{eq-eqb, ne-eqb, lt-ltb, le-ltb}
 use Rattle.refusal.specs.Answers.{row, refusedAt}
@@ -16,11 +17,13 @@ use Rattle.layout.specs.declared.Checked.the-variants as checked
 use Rattle.layout.specs.Promises.{Admits}
 use Rattle.layout.proofs.Calls.{call-passed, admitted-good, admitted-refused}
 use Rattle.rules.specs.declared.Monitor.{Monitor}
-use Rattle.rules.specs.Rules.{next}
 use Rattle.monitor.specs.declared.Totals.{Totals}
 use Rattle.monitor.specs.declared.Stepped.the-variants as stepped
 use Rattle.monitor.specs.declared.Traced.the-variants as traced
-use Rattle.effects.specs.Effects.{bytes, written, answer}
+use Rattle.effects.specs.declared.StepAnswer.{StepAnswer}
+use Rattle.effects.specs.declared.Judged.{Judged}
+use Rattle.effects.specs.Effects.{bytes}
+use Rattle.effects.specs.Promises.{Acts}
 use Rattle.monitor.specs.Runs.{count, steps, memoryAfter, roomAfter, totals}
 use Rattle.monitor.specs.Promises.{traceCheck, stepCheck, runCheck, Traces, Steps, Runs}
 use Rattle.monitor.proofs.Checks.{trace-passed, step-passed}
@@ -40,11 +43,12 @@ module _ (memory layout b room : List ℕ) (l : Layout) where
       trace-passed b (length room) (p .2) .roomy
 
   pub step-admitted : Admits memory layout (stepCheck b (length room)) (checked.Good l)
-      → (length b ≡ 12) × (4 ≤ length room)
+      → (12 ≤ length b) × (4 ≤ length room)
   step-admitted e =
       let g = admitted-good memory layout (stepCheck b (length room)) l e in
       let p = call-passed memory layout (stepCheck b (length room)) (g .0) in
-      step-passed b (length room) (p .2)
+      let q = step-passed b (length room) (p .2) in
+      (omega arith, q .1)
 
 module _ (memory layout b room memory′ room′ : List ℕ) where
   pub judged : (l : Layout) (r : Totals) → Admits memory layout (traceCheck b (length room)) (checked.Good l)
@@ -62,15 +66,17 @@ refused memory layout b room r e =
     record { answered = simp g; memory-left = simp g; room-left = simp g }
 
 module _ (memory layout b : List ℕ) (m : Monitor) (room memory′ room′ : List ℕ) where
-  pub step-judged : (l : Layout) (r : Monitor) → Admits memory layout (stepCheck b (length room)) (checked.Good l)
-      → (r ≡ next l m (steps b 0))
-      × (memory′ ≡ written l m (steps b 0) memory)
-      × (room′ ≡ bytes (answer l m (steps b 0) memory) ++ drop 4 room)
-      → Steps memory layout b m room memory′ room′ (stepped.Judged r)
-  step-judged l r e d =
+  pub step-judged : (l : Layout) (r : Judged) → Admits memory layout (stepCheck b (length room)) (checked.Good l)
+      → Acts l m (steps b 0) memory memory′ r → room′ ≡ bytes (r .answer) ++ drop 4 room
+      → Steps memory layout b m room memory′ room′ (stepped.Judged (r .monitor))
+  step-judged l r e a p =
       let g = admitted-good memory layout (stepCheck b (length room)) l e in
-      let f = rw (g .1) at d in
-      record { answered = simp (g .0, f .0); memory-left = simp (g .0) (f .1); room-left = simp (g .0) (f .2) }
+      let f = rw (g .1) at a in
+      record {
+        answered = simp (g .0, f .remembered);
+        memory-left = simp (g .0) (f .memory-left);
+        room-left = simp (g .0) (p ∙ ap (λ (x : StepAnswer). bytes x ++ drop 4 room) (f .answered));
+      }
 
 pub step-refused : (memory layout b : List ℕ) (m : Monitor) (room : List ℕ) (r : Refusal)
     → Admits memory layout (stepCheck b (length room)) (checked.Refused r) → Steps memory layout b m room memory room (stepped.Refused r)

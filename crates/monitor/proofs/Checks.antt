@@ -1,6 +1,6 @@
 -- The checks of the calls: what has passed, and what then passes too. Assumes nothing.
 use mathlib.Core.Path.{_≡_, refl, ap, sym}
-use mathlib.Core.Bool.{false, not, _||_}
+use mathlib.Core.Bool.{Bool, false, not, _||_}
 use mathlib.Core.List.{List}
 use Prim.Native.Nat.{ℕ, _*_, _%_, _≤_, _<_}
 use native.Mathlib.Omega.{arith}
@@ -8,13 +8,15 @@ use lib.Dec.{eqb, ltb}
 use lib.ListN.{length, drop, length-take, length-drop}
 use lib.Seq.{take-take}
 use borrow.Author.Tests.{eqb-true, eq-eqb, ltb-false, le-ltb, not-false}
+use Rattle.refusal.specs.Choice.{pick}
+use Rattle.refusal.specs.First.{first}
 use Rattle.refusal.specs.Numbers.{roomSize, stepNotZero}
-use Rattle.refusal.specs.Answers.{told}
+use Rattle.refusal.specs.Answers.{refusedAt, told}
 use Rattle.refusal.specs.Settled.{row-settled}
 use Rattle.refusal.specs.declared.Refusal.{Refusal}
 use Rattle.refusal.specs.declared.Answer.{Answer}
 use Rattle.refusal.specs.declared.Answer.the-variants.{Done, Refused}
-use Rattle.refusal.proofs.Tests.{neither}
+use Rattle.refusal.proofs.Tests.{cases, neither}
 use Rattle.refusal.proofs.First.{none-found}
 use Rattle.refusal.proofs.Order.{done-passed}
 use Rattle.rules.specs.Steps.{stepOf}
@@ -54,6 +56,16 @@ step-passed step room e =
     let p = done-passed (not (eqb (length step) stepSize)) _ _ e in
     let q = done-passed (ltb room answerSize) (record { number = roomSize; place = 0 }) _ (p .1) in
     (eqb-true (length step) stepSize (not-false _ (p .0)), ltb-false room answerSize (q .0))
+
+-- one step is checked as a trace of one step is
+place-of-one : (p : ℕ → Bool) (n : ℕ) (a : Answer)
+    → pick (ltb (first 1 p) 1) (refusedAt n (first 1 p)) a ≡ pick (p 0) (refusedAt n 0) a
+unfolding first
+place-of-one p n a = cases (p 0) (λ e. simp e) (λ e. simp e)
+
+pub step-checked : (step : List ℕ) (room : ℕ) → length step ≡ stepSize → traceCheck step room ≡ stepCheck step room
+unfolding traceCheck stepCheck
+step-checked step room e = simp e (simp (place-of-one (unclean step) stepNotZero Done))
 
 -- one step of a trace that passes
 module _ (trace : List ℕ) (room : ℕ) (f : Fitting trace room) (i : ℕ) (h : i < count trace) where

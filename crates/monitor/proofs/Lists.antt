@@ -1,45 +1,25 @@
--- Twelve reads in a row, and four stores in a row. Assumes nothing.
-use mathlib.Core.Path.{_≡_, refl, sym, ap, _∙_}
+-- A list that is read from a place on, and four stores in a row. Assumes nothing.
+use mathlib.Core.Path.{_≡_, ap, sym, _∙_}
 use mathlib.Core.List.{List, [], _∷_, _++_}
-use Prim.Native.Nat.{ℕ, zero, suc, _+_, _≤_}
-use native.Mathlib.Nat.{add-suc}
+use Prim.Native.Nat.{ℕ, suc, _+_, _≤_, _<_}
 use native.Mathlib.Omega.{arith}
 use native.Mathlib.Numerals.{add-one}
-use lib.ListN.{length, getD, set, take, drop}
-use lib.Seq.{drop-cons, sets-eq}
+use lib.ListN.{length, getD, set, take, drop, length-drop}
+use lib.Seq.{take-all, take-suc, take-suc-set, getD-drop, sets-eq}
 
--- n reads from place p + k on
-gathered : List ℕ → ℕ → ℕ → ℕ → List ℕ
-gathered b p k zero = []
-gathered b p k (suc n) = getD b (p + k) 0 ∷ gathered b p (suc k) n
+-- the first k bytes are those from place p on, and so are the first k + 1 once the next is stored
+pub one-more : (b r : List ℕ) (p k : ℕ) → k < length r → p + k < length b → take k r ≡ take k (drop p b)
+    → take (k + 1) (set r k (getD b (p + k) 0)) ≡ take (k + 1) (drop p b)
+one-more b r p k h g e =
+    let l : k < length (drop p b) = rw length-drop (omega arith) in
+    rw add-one
+    (take-suc-set r k (getD b (p + k) 0) h
+    ∙ ap (λ (x : List ℕ). x ++ (getD b (p + k) 0 ∷ [])) e
+    ∙ ap (λ (y : ℕ). take k (drop p b) ++ (y ∷ [])) (sym (getD-drop p b k 0))
+    ∙ sym (take-suc (drop p b) k 0 l))
 
-take-gathered : (b : List ℕ) (p k n : ℕ) → p + k + n ≤ length b → take n (drop (p + k) b) ≡ gathered b p k n
-unfolding gathered
-take-gathered b p k zero h = refl
-take-gathered b p k (suc n) h =
-    ap (take (suc n)) (drop-cons b (p + k) 0 (omega arith))
-    ∙ ap (λ (r : List ℕ). getD b (p + k) 0 ∷ r) (ap (λ (i : ℕ). take n (drop i b)) (sym (add-suc p k)) ∙ take-gathered b p (suc k) n (omega arith))
-
-pub twelve : (b : List ℕ) (p : ℕ) → p + 12 ≤ length b
-    → getD b p 0
-    ∷ getD b (p + 1) 0
-    ∷ getD b (p + 2) 0
-    ∷ getD b (p + 3) 0
-    ∷ getD b (p + 4) 0
-    ∷ getD b (p + 5) 0
-    ∷ getD b (p + 6) 0
-    ∷ getD b (p + 7) 0
-    ∷ getD b (p + 8) 0
-    ∷ getD b (p + 9) 0
-    ∷ getD b (p + 10) 0
-    ∷ getD b (p + 11) 0
-    ∷ []
-    ≡ take 12 (drop p b)
-unfolding gathered
-twelve b p h =
-    ap (λ (r : List ℕ). getD b p 0 ∷ r) (sym (take-gathered b p 1 11 (omega arith)))
-    ∙ rw add-one refl
-    ∙ ap (take 12) (sym (drop-cons b p 0 (omega arith)))
+pub all-read : (b r : List ℕ) (p q k n : ℕ) → k ≡ n → length r ≡ n → p ≡ q → take k r ≡ take k (drop p b) → r ≡ take n (drop q b)
+all-read b r p q k n ek er ep e = cc (take-all n r (omega arith))
 
 pub four : (l : List ℕ) (i a b c d : ℕ) → i + 4 ≤ length l
     → set (set (set (set l i a) (i + 1) b) (i + 2) c) (i + 3) d ≡ take i l ++ (a ∷ b ∷ c ∷ d ∷ []) ++ drop (i + 4) l

@@ -1,5 +1,5 @@
 -- One turn of the run's loop, on plain variables: what stands after i steps, and that one step more keeps it. Assumes nothing.
-use mathlib.Core.Path.{_≡_, refl, ap, sym, _∙_}
+use mathlib.Core.Path.{_≡_, refl, ap, sym, subst, _∙_}
 use mathlib.Core.Bool.{Bool, true, false, not}
 use mathlib.Core.List.{List, _++_}
 use Prim.Native.Nat.{ℕ, suc, _+_, _*_, _≤_, zero-le}
@@ -45,8 +45,7 @@ grown a room₀ v i e =
 
 module _ (l : Layout) (b memory₀ room₀ : List ℕ) (i : ℕ) (memory room : List ℕ) (m : Monitor) (r : ℕ)
     (d : After l b memory₀ room₀ i memory room m r)
-    (s : Step) (es : s ≡ steps b i) (j : Judged) (memory′ : List ℕ)
-    (a : Acts l m s memory memory′ j) where
+    (j : Judged) (memory′ : List ℕ) (a : Acts l m (steps b i) memory memory′ j) where
   same-said : j .answer ≡ said l (steps b) (begin memory₀) i
   same-said = cc
 
@@ -98,14 +97,7 @@ whole l b memory₀ room₀ i memory room m r n d en ei =
       d .answered ∙ ap (λ (k : ℕ). answers l (steps b) (begin memory₀) k ++ drop (4 * k) room₀) e,
     )
 
--- one step alone
-pub one : (l : Layout) (m : Monitor) (b memory memory′ room room′ : List ℕ) (s : Step) → s ≡ steps b 0
-    → (j : Judged) → Acts l m s memory memory′ j → room′ ≡ bytes (j .answer) ++ drop 4 room
-    → (j .monitor ≡ next l m (steps b 0))
-    × (memory′ ≡ written l m (steps b 0) memory)
-    × (room′ ≡ bytes (answer l m (steps b 0) memory) ++ drop 4 room)
-one l m b memory memory′ room room′ s e j a placed = (
-  a .remembered ∙ ap (next l m) e,
-  a .memory-left ∙ ap (λ (u : Step). written l m u memory) e,
-  placed ∙ ap (λ (x : StepAnswer). bytes x ++ drop 4 room) (a .answered ∙ ap (λ (u : Step). answer l m u memory) e),
-)
+-- what a step has done, told of the step that its bytes are
+pub acted : (l : Layout) (m : Monitor) (s u : Step) (memory memory′ : List ℕ) (j : Judged) → s ≡ u → Acts l m s memory memory′ j
+    → Acts l m u memory memory′ j
+acted l m s u memory memory′ j e a = subst (λ (x : Step). Acts l m x memory memory′ j) e a

@@ -1,4 +1,5 @@
 // The monitor on lent memory: one step from whatever it remembers, and a trace from its start.
+use effects::Judged;
 use effects::StepAnswer;
 use layout::Checked;
 use layout::Layout;
@@ -11,8 +12,8 @@ ghost use Prim.Native.Nat.{_+_, _*_, _/_, _≤_, _<_};
 ghost use lib.ListN.{length, take, drop};
 ghost use Rattle.refusal.specs.Choice.{pick};
 ghost use Rattle.refusal.specs.Answers.{row};
-ghost use Rattle.rules.specs.Rules.{next};
 ghost use Rattle.effects.specs.Effects as E;
+ghost use Rattle.effects.specs.Promises.{Acts};
 ghost use Rattle.monitor.specs.Runs as R;
 ghost use Rattle.monitor.specs.Promises as P;
 
@@ -44,20 +45,13 @@ fn step_bytes(b: &[u8], n: usize) -> [u8; 12]
     ensures { λ r. ⌜ r ≡ R.stepBytes (now (b .entry)) n ⌝ }
 {
     let p = STEP * n;
-    [
-        b[p],
-        b[p + 1],
-        b[p + 2],
-        b[p + 3],
-        b[p + 4],
-        b[p + 5],
-        b[p + 6],
-        b[p + 7],
-        b[p + 8],
-        b[p + 9],
-        b[p + 10],
-        b[p + 11],
-    ]
+    let mut r = [0u8; 12];
+    let mut k: usize = 0;
+    while k < STEP {
+        r[k] = b[p + k];
+        k += 1;
+    }
+    r
 }
 
 // The same of any step: zeros if the trace has none with this number.
@@ -102,6 +96,25 @@ fn one_if(resets: bool) -> usize
     if resets { 1 } else { 0 }
 }
 
+// Step i of a trace: its stores, and its answer at its place of the room.
+fn run_step(
+    l: Layout,
+    m: Monitor,
+    trace: &[u8],
+    i: usize,
+    memory: &mut [u8],
+    room: &mut [u8],
+) -> Judged
+    requires { ⌜ (R.stepSize * i + R.stepSize ≤ length (now trace)) × (R.answerSize * i + R.answerSize ≤ length (now room)) ⌝ }
+    ensures { λ r. ⌜ Acts l m (R.steps (now (trace .entry)) i) (now (memory .entry)) (now (memory .exit)) r
+        × (now (room .exit) ≡ take (R.answerSize * i) (now (room .entry)) ++ E.bytes (r .answer) ++ drop (R.answerSize * i + R.answerSize) (now (room .entry))) ⌝ }
+{
+    let s = rules::decode(step_bytes(trace, i));
+    let j = effects::judge(l, m, s, memory);
+    put_answer(room, ANSWER * i, j.answer);
+    j
+}
+
 // All steps of a trace, from the monitor's start.
 fn run(l: Layout, trace: &[u8], memory: &mut [u8], room: &mut [u8]) -> Totals
     requires { ⌜ R.answerSize * R.count (now trace) ≤ length (now room) ⌝ }
@@ -117,12 +130,9 @@ fn run(l: Layout, trace: &[u8], memory: &mut [u8], room: &mut [u8]) -> Totals
     let mut resets: usize = 0;
     let mut i: usize = 0;
     while i < steps {
-        let s = rules::decode(step_bytes(trace, i));
-        let j = effects::judge(l, m, s, memory);
-        let a = j.answer;
-        put_answer(room, ANSWER * i, a);
+        let j = run_step(l, m, trace, i, memory, room);
         m = j.monitor;
-        resets += one_if(a.cause != 0);
+        resets += one_if(j.answer.cause != 0);
         i += 1;
     }
     Totals { steps, resets }
@@ -176,13 +186,7 @@ fn step_fits(step: &[u8], room: usize) -> Answer
     if step.len() != STEP {
         return refusal::refused(refusal::TRACE_SIZE);
     }
-    if room < ANSWER {
-        return refusal::refused(refusal::ROOM_SIZE);
-    }
-    if !rules::clean(step_bytes(step, 0)) {
-        return refusal::refused(refusal::STEP_NOT_ZERO);
-    }
-    Answer::Done
+    fits(step, room)
 }
 
 // Judges a trace on lent memory, from the monitor's start, and puts four answer bytes a step into the room.
@@ -196,19 +200,6 @@ pub fn trace(memory: &mut [u8], layout: &[u8], trace: &[u8], room: &mut [u8]) ->
         Checked::Good(l) => Traced::Judged(run(l, trace, memory, room)),
         Checked::Refused(r) => Traced::Refused(r),
     }
-}
-
-fn run_step(l: Layout, step: &[u8], m: Monitor, memory: &mut [u8], room: &mut [u8]) -> Monitor
-    requires { ⌜ (length (now step) ≡ R.stepSize) × (R.answerSize ≤ length (now room)) ⌝ }
-    ensures { λ r. ⌜ (r ≡ next l m (R.steps (now (step .entry)) 0))
-        × (now (memory .exit) ≡ E.written l m (R.steps (now (step .entry)) 0) (now (memory .entry)))
-        × (now (room .exit) ≡ E.bytes (E.answer l m (R.steps (now (step .entry)) 0) (now (memory .entry))) ++ drop R.answerSize (now (room .entry))) ⌝ }
-{
-    let s = rules::decode(step_bytes(step, 0));
-    let j = effects::judge(l, m, s, memory);
-    let a = j.answer;
-    put_answer(room, 0, a);
-    j.monitor
 }
 
 // Judges one step on lent memory, from whatever the monitor remembers, and hands back what it then remembers.
@@ -225,7 +216,11 @@ pub fn step(
 {
     let rest = step_fits(step, room.len());
     match layout::admit(memory, layout, rest) {
-        Checked::Good(l) => Stepped::Judged(run_step(l, step, monitor, memory, room)),
+        Checked::Good(l) => {
+            let j = run_step(l, monitor, step, 0, memory, room);
+            let after = j.monitor;
+            Stepped::Judged(after)
+        }
         Checked::Refused(r) => Stepped::Refused(r),
     }
 }

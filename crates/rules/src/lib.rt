@@ -81,17 +81,19 @@ fn breaks(l: Layout, m: Monitor, s: Step) -> Broken
     let dma_kr = l.kr.holds(s.dma);
     let dma_xs = l.xs.holds(s.dma);
     let dma_ctr = l.ctr.holds(s.dma);
+    let free = !m.held;
+    let other = !code;
     Broken {
-        r1: !code & (s.reads & cpu_kr),
-        r2: !m.held & (came & (m.last != l.cr.hi) & !code),
-        r3: !m.held & (!came & code & (s.pc != l.cr.lo)),
-        r4: !m.held & (s.interrupt & code),
-        r5: !code & ((s.reads & cpu_xs) | (s.writes & cpu_xs)),
-        r6: !m.held & (code & s.writes & (!cpu_xs & !cpu_mr & !cpu_ctr)),
+        r1: other & (s.reads & cpu_kr),
+        r2: free & (came & (m.last != l.cr.hi) & other),
+        r3: free & (!came & code & (s.pc != l.cr.lo)),
+        r4: free & (s.interrupt & code),
+        r5: other & ((s.reads & cpu_xs) | (s.writes & cpu_xs)),
+        r6: free & (code & s.writes & (!cpu_xs & !cpu_mr & !cpu_ctr)),
         r7: s.active & dma_kr,
         r8: s.active & dma_xs,
-        r9: !m.held & (s.active & code),
-        r10: (!code & (s.writes & cpu_ctr)) | (s.stores & (s.active & dma_ctr)),
+        r9: free & (s.active & code),
+        r10: (other & (s.writes & cpu_ctr)) | (s.stores & (s.active & dma_ctr)),
     }
 }
 

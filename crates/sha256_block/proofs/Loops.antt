@@ -5,7 +5,7 @@ use Prim.Native.Nat.{ℕ, _+_, _*_, _<_}
 use native.Mathlib.Numerals.{add-one}
 use native.Mathlib.Omega.{arith}
 use lib.ListN.{length, getD, take, drop, set}
-use lib.Seq.{getD-take, getD-set-same, getD-set-other}
+use lib.Seq.{take-all, getD-take, getD-set-same, getD-set-other}
 use Rattle.sha256_block.specs.declared.Vars.{Vars}
 use Rattle.sha256_block.specs.Words.{word, words}
 use Rattle.sha256_block.specs.Constants.{K}
@@ -49,6 +49,11 @@ schedule-carried m w n w2 w1 x h inv e2 e1 e =
       cc (getD-set-other w (n + 16) (n + 15) x 0 (λ q. omega arith)),
       cc (getD-set-same w (n + 16) x 0 h),
     )
+
+pub schedule-whole : (m w : List ℕ) (t : ℕ) → t ≡ 48 → length w ≡ 64 → take (t + 16) w ≡ schedule m t → w ≡ schedule m 48
+schedule-whole m w t e l inv =
+    let e′ : t + 16 ≡ 64 = omega arith in
+    cc (take-all 64 w (omega arith))
 
 rounds-next : (w : List ℕ) (v : Vars) (t : ℕ) → rounds w v (t + 1) ≡ round (getD K t 0) (getD w t 0) (rounds w v t)
 unfolding rounds

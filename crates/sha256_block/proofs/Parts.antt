@@ -2,7 +2,6 @@
 use mathlib.Core.Path.{_≡_, ap, _∙_}
 use mathlib.Core.List.{List, [], _∷_}
 use Prim.Native.Nat.{ℕ}
-use lib.ListN.{getD}
 use Rattle.sha256_block.specs.declared.Vars.{Vars}
 use Rattle.sha256_block.specs.Words.{add}
 use Rattle.sha256_block.specs.Block.{next, schedule, load, round, rounds, addTo, compress}
@@ -24,14 +23,19 @@ vars-with v a x e y p q =
     ap (λ (z : ℕ). record { a = z; b = v .a; c = v .b; d = v .c; e = e; f = v .e; g = v .f; h = v .g }) p
     ∙ ap (λ (z : ℕ). record { a = x; b = v .a; c = v .b; d = v .c; e = z; f = v .e; g = v .f; h = v .g }) q
 
-pub added : (s : List ℕ) (v : Vars) (a b c d e f g h : ℕ) → a ≡ add (getD s 0 0) (v .a) → b ≡ add (getD s 1 0) (v .b)
-    → c ≡ add (getD s 2 0) (v .c) → d ≡ add (getD s 3 0) (v .d) → e ≡ add (getD s 4 0) (v .e) → f ≡ add (getD s 5 0) (v .f)
-    → g ≡ add (getD s 6 0) (v .g) → h ≡ add (getD s 7 0) (v .h) → a ∷ b ∷ c ∷ d ∷ e ∷ f ∷ g ∷ h ∷ [] ≡ addTo s v
-unfolding addTo
-added s v a b c d e f g h ea eb ec ed ee ef eg eh = cc
+pub eight : (a b c d e f g h a′ b′ c′ d′ e′ f′ g′ h′ : ℕ) → a ≡ a′ → b ≡ b′ → c ≡ c′ → d ≡ d′ → e ≡ e′ → f ≡ f′ → g ≡ g′ → h ≡ h′
+    → a ∷ b ∷ c ∷ d ∷ e ∷ f ∷ g ∷ h ∷ [] ≡ a′ ∷ b′ ∷ c′ ∷ d′ ∷ e′ ∷ f′ ∷ g′ ∷ h′ ∷ []
+eight a b c d e f g h a′ b′ c′ d′ e′ f′ g′ h′ ea eb ec ed ee ef eg eh = cc
 
-pub compressed : (s m w r : List ℕ) (l u : Vars) → w ≡ schedule m 48 → l ≡ load s → u ≡ rounds w l 64 → r ≡ addTo s u → r ≡ compress s m
-unfolding compress
+-- the sums of two sets of working variables
+abbrev sums : Vars → Vars → List ℕ
+sums u v =
+    add (u .a) (v .a) ∷ add (u .b) (v .b) ∷ add (u .c) (v .c) ∷ add (u .d) (v .d)
+    ∷ add (u .e) (v .e) ∷ add (u .f) (v .f) ∷ add (u .g) (v .g) ∷ add (u .h) (v .h) ∷ []
+
+pub compressed : (s m w r : List ℕ) (l u : Vars) → w ≡ schedule m 48 → l ≡ load s → u ≡ rounds w l 64 → r ≡ sums l u → r ≡ compress s m
+unfolding compress addTo
 compressed s m w r l u ew el eu er =
     er
-    ∙ ap (addTo s) (eu ∙ ap (λ (x : List ℕ). rounds x l 64) ew ∙ ap (λ (x : Vars). rounds (schedule m 48) x 64) el)
+    ∙ ap (λ (x : Vars). sums x u) el
+    ∙ ap (sums (load s)) (eu ∙ ap (λ (x : List ℕ). rounds x l 64) ew ∙ ap (λ (x : Vars). rounds (schedule m 48) x 64) el)

@@ -5,6 +5,7 @@ mod functions;
 use constants::K;
 use functions::add;
 ghost use mathlib.Core.Path.{_≡_};
+ghost use mathlib.Core.List.{[], _∷_};
 ghost use Prim.Native.Nat.{_+_, _<_};
 ghost use lib.ListN.{length, take};
 ghost use Rattle.sha256_block.specs.Words as W;
@@ -153,19 +154,21 @@ fn load(s: [u32; 8]) -> Vars
     }
 }
 
-// The working variables added to the hash value.
-fn add_to(s: [u32; 8], v: Vars) -> [u32; 8]
-    ensures { λ r. ⌜ r ≡ B.addTo s v ⌝ }
+// Working variables added to those of the hash value.
+fn add_to(u: Vars, v: Vars) -> [u32; 8]
+    ensures { λ r. ⌜ r
+        ≡ W.add (u .a) (v .a) ∷ W.add (u .b) (v .b) ∷ W.add (u .c) (v .c) ∷ W.add (u .d) (v .d)
+        ∷ W.add (u .e) (v .e) ∷ W.add (u .f) (v .f) ∷ W.add (u .g) (v .g) ∷ W.add (u .h) (v .h) ∷ [] ⌝ }
 {
     [
-        add(s[0], v.a),
-        add(s[1], v.b),
-        add(s[2], v.c),
-        add(s[3], v.d),
-        add(s[4], v.e),
-        add(s[5], v.f),
-        add(s[6], v.g),
-        add(s[7], v.h),
+        add(u.a, v.a),
+        add(u.b, v.b),
+        add(u.c, v.c),
+        add(u.d, v.d),
+        add(u.e, v.e),
+        add(u.f, v.f),
+        add(u.g, v.g),
+        add(u.h, v.h),
     ]
 }
 
@@ -175,7 +178,8 @@ fn compress(k: &[u32; 64], s: [u32; 8], m: &[u8]) -> [u32; 8]
     ensures { λ r. ⌜ r ≡ B.compress s (now (m .entry)) ⌝ }
 {
     let w = schedule(m);
-    add_to(s, rounds(k, &w, load(s)))
+    let u = load(s);
+    add_to(u, rounds(k, &w, u))
 }
 
 // The hash value after the whole blocks of the bytes; what is left behind them is not looked at.

@@ -1,12 +1,10 @@
 -- `monitor::run` meets its contract. Assumes nothing.
-use borrow.Author.Needs.{needs}
 use Prim.Native.Nat.{_≤_, _-_}
-use mathlib.Core.Path.{_≡_, refl, ap, _∙_}
+use mathlib.Core.Path.{_≡_, refl, _∙_}
 use mathlib.Core.Bool.{not}
 use native.Mathlib.Omega.{arith}
 use lib.Dec.{eqb}
 use lib.ListN.{length}
-use Rattle.rules.specs.Steps.{stepOf}
 use Rattle.monitor.specs.Runs.{count}
 use Rattle.monitor.proofs.Turns.{After, none, more, one-most, whole}
 use Rattle.monitor.proofs.run.Statement.{statement}
@@ -22,45 +20,32 @@ abbrev μ-loop : tie.MeasureT-loop
 loop-holds : tie.Need-loop-holds Inv-loop μ-loop
 loop-holds c = (omega arith, refl, refl, refl, omega arith, none _ _ _ _)
 
-step-bytes-requires : tie.Need-step-bytes-requires Inv-loop μ-loop
-step-bytes-requires c κs = omega arith
-
-decode-requires : tie.Need-decode-requires Inv-loop μ-loop
-decode-requires c κs = search needs
-
-judge-requires : tie.Need-judge-requires Inv-loop μ-loop
-judge-requires c κs = search needs
-
-mul-put-answer : tie.Need-mul-put-answer Inv-loop μ-loop
-mul-put-answer c = omega arith
-
-put-answer-requires : tie.Need-put-answer-requires Inv-loop μ-loop
-put-answer-requires c κs = omega arith
+run-step-requires : tie.Need-run-step-requires Inv-loop μ-loop
+run-step-requires c κs = (omega arith, omega arith)
 
 one-if-requires : tie.Need-one-if-requires Inv-loop μ-loop
-one-if-requires c κs = search needs
+one-if-requires c κs = tt
 
 add-resets : tie.Need-add-resets Inv-loop μ-loop
 add-resets c =
-    omega (arith, c .before .before .before .before .before .before .before .before .before .before .before .before .before .before .before .loop .inv, c .before .before .before .before .before .before .before .before .before .before .before .before .before .before .loop-test, c .before .before .before .before .before .before .before .before .before .before .before .before .before .before .before .before .before .before .before .good, c .one-if .ensures, one-most (not (eqb (c .before .before .before .before .before .before .before .before .before .before .judge .result .answer .cause) 0)))
+    omega (arith, c .one-if .ensures, one-most (not (eqb (c .before .before .before .before .before .before .before .run-step .result .answer .cause) 0)))
 
 add-i : tie.Need-add-i Inv-loop μ-loop
-add-i c = omega (arith, c .before .before .before .before .before .before .before .before .before .before .before .before .before .before .before .loop .inv, c .before .before .before .before .before .before .before .before .before .before .before .before .before .before .loop-test, c .before .before .before .before .before .before .before .before .before .before .before .before .before .before .before .before .before .before .before .good)
+add-i c = omega arith
 
 loop-less : tie.Need-loop-less Inv-loop μ-loop
 loop-less c = omega arith
 
 loop-again : tie.Need-loop-again Inv-loop μ-loop
 loop-again c =
-    let h = c .before .before .before .before .before .before .before .before .before .before .before .before .before .before .before .loop in
-    let j = c .before .before .before .before .before .before .before .before .before .before .judge in
-    let p = c .before .before .before .before .before .put-answer in (
-      omega (arith, h .inv, c .before .before .before .before .before .before .before .before .before .before .before .before .before .before .loop-test),
+    let h = c .before .before .before .before .before .before .before .before .before .before .before .loop in
+    let j = c .before .before .before .before .before .before .before .run-step in (
+      omega (arith, h .inv, c .before .before .before .before .before .before .before .before .before .before .loop-test),
       refl,
-      j .kept .1 .1 .1 .0 ∙ h .inv .2,
-      p .kept .0 ∙ h .inv .3,
+      j .kept .1 .1 .1 .1 .0 ∙ h .inv .2,
+      j .kept .1 .1 .1 .1 .1 .0 ∙ h .inv .3,
       omega (arith, h .inv, c .one-if .ensures, one-most (not (eqb (j .result .answer .cause) 0))),
-      more _ _ _ _ _ _ _ _ _ (h .inv .5) _ (c .before .before .before .before .before .before .before .before .before .before .before .before .decode .ensures ∙ ap stepOf (c .before .before .before .before .before .before .before .before .before .before .before .before .before .step-bytes .ensures)) _ _ (j .ensures) _ (p .ensures) _ (c .one-if .ensures),
+      more _ _ _ _ _ _ _ _ _ (h .inv .5) _ _ (j .ensures .0) _ (j .ensures .1) _ (c .one-if .ensures),
     )
 
 same-length : tie.Need-same-length Inv-loop μ-loop
@@ -81,11 +66,7 @@ run-spec =
     Inv-loop
     μ-loop
     loop-holds
-    step-bytes-requires
-    decode-requires
-    judge-requires
-    mul-put-answer
-    put-answer-requires
+    run-step-requires
     one-if-requires
     add-resets
     add-i

@@ -1,19 +1,23 @@
 -- `monitor::run_step` meets its contract. Assumes nothing.
 use borrow.Author.Needs.{needs}
 use mathlib.Core.Path.{ap, _∙_}
+use native.Mathlib.Omega.{arith}
 use Rattle.rules.specs.Steps.{stepOf}
-use Rattle.monitor.proofs.Turns.{one}
+use Rattle.monitor.proofs.Turns.{acted}
 use Rattle.monitor.proofs.run_step.Statement.{statement}
 use Rattle.monitor.proofs.run_step.Tie as tie
 
 step-bytes-requires : tie.Need-step-bytes-requires
-step-bytes-requires c κs = search needs
+step-bytes-requires c κs = omega arith
 
 decode-requires : tie.Need-decode-requires
-decode-requires c κs = search needs
+decode-requires c κs = tt
 
 judge-requires : tie.Need-judge-requires
-judge-requires c κs = search needs
+judge-requires c κs = tt
+
+mul-put-answer : tie.Need-mul-put-answer
+mul-put-answer c = search needs
 
 put-answer-requires : tie.Need-put-answer-requires
 put-answer-requires c κs = search needs
@@ -25,10 +29,10 @@ same-length-2 : tie.Need-same-length-2
 same-length-2 c = search needs
 
 returns : tie.Need-returns
-returns c =
-    let h = c .before .before .before .before .before .before .before .before .before .before .before .before .before .before .before .args in
-    let j = c .before .before .before .before .before .before .before .before .judge in
-    one _ _ (h .step .now) _ _ (h .room .now) _ _ (c .before .before .before .before .before .before .before .before .before .before .decode .ensures ∙ ap stepOf (c .before .before .before .before .before .before .before .before .before .before .before .step-bytes .ensures)) _ (j .ensures) (c .before .before .before .put-answer .ensures)
+returns c = (
+  acted _ _ _ _ _ _ _ (c .before .before .before .before .before .before .before .before .decode .ensures ∙ ap stepOf (c .before .before .before .before .before .before .before .before .before .step-bytes .ensures)) (c .before .before .before .before .before .before .judge .ensures),
+  c .before .before .put-answer .ensures,
+)
 
 pub run-step-spec : {M : Type 1} → statement M
 run-step-spec =
@@ -37,6 +41,7 @@ run-step-spec =
     step-bytes-requires
     decode-requires
     judge-requires
+    mul-put-answer
     put-answer-requires
     same-length
     same-length-2

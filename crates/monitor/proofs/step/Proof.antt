@@ -29,8 +29,9 @@ same-length-2 c = search needs
 
 returns : tie.Need-returns
 returns c =
-    let h = c .before .before .before .before .before .before .before .before .before .before .before .before .before .before .before .before .before .args in
-    step-judged (h .memory .now) (h .layout .now) (h .step .now) (h .monitor) (h .room .now) _ _ _ _ (admitted (h .memory .now) (h .layout .now) _ _ _ _ (c .before .before .before .before .before .before .before .before .before .before .before .before .step-fits .ensures) (c .before .before .before .before .before .before .before .before .before .before .admit .ensures) (c .before .before .before .before .before .before .before .before .l .given .1)) (c .before .before .before .before .run-step .ensures)
+    let h = c .before .before .before .before .before .before .before .before .before .before .before .before .before .before .before .before .before .before .args in
+    let r = c .before .before .before .before .before .run-step in
+    step-judged (h .memory .now) (h .layout .now) (h .step .now) (h .monitor) (h .room .now) _ _ _ _ (admitted (h .memory .now) (h .layout .now) _ _ _ _ (c .before .before .before .before .before .before .before .before .before .before .before .before .before .step-fits .ensures) (c .before .before .before .before .before .before .before .before .before .before .before .admit .ensures) (c .before .before .before .before .before .before .before .before .before .l .given .1)) (r .ensures .0) (r .ensures .1)
 
 same-length-3 : tie.Need-same-length-3
 same-length-3 c = search needs

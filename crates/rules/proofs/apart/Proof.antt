@@ -1,31 +1,30 @@
 -- `rules::apart` meets its contract. Assumes nothing.
-use borrow.Author.Needs.{needs}
 use Rattle.rules.proofs.apart.Statement.{statement}
 use Rattle.rules.proofs.apart.Tie as tie
 
 holds-requires : tie.Need-holds-requires
-holds-requires c κs = search needs
+holds-requires c κs = tt
 
 holds-requires-2 : tie.Need-holds-requires-2
-holds-requires-2 c κs = search needs
+holds-requires-2 c κs = tt
 
 holds-requires-3 : tie.Need-holds-requires-3
-holds-requires-3 c κs = search needs
+holds-requires-3 c κs = tt
 
 holds-requires-4 : tie.Need-holds-requires-4
-holds-requires-4 c κs = search needs
+holds-requires-4 c κs = tt
 
 holds-requires-5 : tie.Need-holds-requires-5
-holds-requires-5 c κs = search needs
+holds-requires-5 c κs = tt
 
 holds-requires-6 : tie.Need-holds-requires-6
-holds-requires-6 c κs = search needs
+holds-requires-6 c κs = tt
 
 holds-requires-7 : tie.Need-holds-requires-7
-holds-requires-7 c κs = search needs
+holds-requires-7 c κs = tt
 
 holds-requires-8 : tie.Need-holds-requires-8
-holds-requires-8 c κs = search needs
+holds-requires-8 c κs = tt
 
 returns : tie.Need-returns
 returns c = simp (c .before .before .before .before .before .before .before .holds .ensures, c .before .before .before .before .before .before .holds2 .ensures, c .before .before .before .before .before .holds3 .ensures, c .before .before .before .before .holds4 .ensures, c .before .before .before .holds5 .ensures, c .before .before .holds6 .ensures, c .before .holds7 .ensures, c .holds8 .ensures)

@@ -1,6 +1,5 @@
 -- `rules::cause` meets its contract. Assumes nothing.
 use mathlib.Core.Path.{sym, _∙_}
-use borrow.Author.Needs.{needs}
 use borrow.Author.Tests.{not-true}
 use Rattle.rules.specs.Rules.{cause}
 use Rattle.rules.proofs.None.{apart-lowest, visit-lowest}
@@ -12,7 +11,7 @@ unfolding cause
 returns c = simp (c .if1 .taken)
 
 apart-requires : tie.Need-apart-requires
-apart-requires c κs = search needs
+apart-requires c κs = tt
 
 returns-2 : tie.Need-returns-2
 unfolding cause
@@ -21,7 +20,7 @@ returns-2 c =
     simp (c .before .before .if1 .left) (sym (apart-lowest (h .l) (h .m) (h .s) (not-true _ (sym (c .before .apart .ensures) ∙ c .if2 .taken))))
 
 visits-requires : tie.Need-visits-requires
-visits-requires c κs = search needs
+visits-requires c κs = tt
 
 returns-3 : tie.Need-returns-3
 unfolding cause
@@ -30,10 +29,10 @@ returns-3 c =
     simp (c .before .before .before .before .if1 .left) (sym (visit-lowest (h .l) (h .m) (h .s) (sym (c .before .visits .ensures) ∙ c .if3 .taken)))
 
 breaks-requires : tie.Need-breaks-requires
-breaks-requires c κs = search needs
+breaks-requires c κs = tt
 
 lowest-requires : tie.Need-lowest-requires
-lowest-requires c κs = search needs
+lowest-requires c κs = tt
 
 returns-4 : tie.Need-returns-4
 unfolding cause

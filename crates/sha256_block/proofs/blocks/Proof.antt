@@ -1,5 +1,5 @@
 -- `sha256_block::blocks` meets its contract. Assumes nothing.
-use mathlib.Core.Path.{_≡_, refl}
+use mathlib.Core.Path.{_≡_, refl, ap, _∙_}
 use Prim.Native.Nat.{_≤_, _-_, _+_, _*_, _/_}
 use native.Mathlib.Omega.{arith}
 use lib.ListN.{length, length-take, length-drop}
@@ -59,7 +59,7 @@ returns : tie.Need-returns Inv-loop μ-loop
 returns c =
     let l = c .before in
     let e : l .loop .i ≡ length (l .before .before .args .bytes .now) / 64 = omega arith in
-    cc
+    l .loop .inv .1 ∙ ap (blocks _ _) e
 
 pub blocks-spec : {M : Type 1} → statement M
 blocks-spec =

@@ -19,7 +19,7 @@ add-to-requires c κs = tt
 returns : tie.Need-returns
 returns c =
     let h = c .before .before .before .before .before .before .args in
-    compressed (h .s) (h .m .now) _ _ _ _ (c .before .before .before .before .schedule .ensures) (c .before .before .load .ensures) (c .before .rounds .ensures) (c .add-to .ensures)
+    compressed (h .s) (h .m .now) _ _ _ _ (c .before .before .before .before .schedule .ensures) (c .before .before .before .load .ensures) (c .before .rounds .ensures) (c .add-to .ensures)
 
 pub compress-spec : {M : Type 1} → statement M
 compress-spec =

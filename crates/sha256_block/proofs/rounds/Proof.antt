@@ -1,5 +1,5 @@
 -- `sha256_block::rounds` meets its contract. Assumes nothing.
-use mathlib.Core.Path.{_≡_, refl}
+use mathlib.Core.Path.{_≡_, refl, ap, _∙_}
 use Prim.Native.Nat.{_≤_, _-_, _%_}
 use native.Mathlib.Omega.{arith}
 use Rattle.sha256_block.specs.Block.{rounds}
@@ -115,8 +115,9 @@ loop-again c =
 
 returns : tie.Need-returns Inv-loop μ-loop
 returns c =
-    let e : c .before .loop .t ≡ 64 = omega arith in
-    cc
+    let l = c .before .loop in
+    let e : l .t ≡ 64 = omega arith in
+    l .inv .2 ∙ ap (rounds _ _) e
 
 pub rounds-spec : {M : Type 1} → statement M
 rounds-spec =

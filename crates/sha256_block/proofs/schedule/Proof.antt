@@ -3,9 +3,8 @@ use mathlib.Core.Path.{_≡_, refl}
 use Prim.Native.Nat.{_≤_, _-_, _+_}
 use native.Mathlib.Omega.{arith}
 use lib.ListN.{length, getD, take, length-set}
-use lib.Seq.{take-all}
 use Rattle.sha256_block.specs.Block.{schedule}
-use Rattle.sha256_block.proofs.Loops.{schedule-carried}
+use Rattle.sha256_block.proofs.Loops.{schedule-carried, schedule-whole}
 use borrow.Author.Needs.{needs}
 use Rattle.sha256_block.proofs.schedule.Statement.{statement}
 use Rattle.sha256_block.proofs.schedule.Tie as tie
@@ -81,10 +80,7 @@ loop-again c =
 
 returns : tie.Need-returns Inv-loop μ-loop
 returns c =
-    let l = c .before .loop in
-    let e : l .t ≡ 48 = omega arith in
-    let e′ : l .t + 16 ≡ 64 = omega arith in
-    cc (take-all 64 (l .w) (omega arith))
+    let l = c .before .loop in schedule-whole _ (l .w) (l .t) (omega arith) (l .inv .1) (l .inv .2)
 
 pub schedule-spec : {M : Type 1} → statement M
 schedule-spec =

@@ -26,7 +26,8 @@ use Rattle.layout.proofs.Calls.{call-passed, call-rest, call-refused, admitted-
 use Rattle.routine.specs.Routine.{token, replyTo, requestCheck}
 use Rattle.routine.specs.Promises.{RepliesTo, Authorises}
 use Rattle.routine.proofs.Laws.{reply-to-is, request-passed}
-use Rattle.board.specs.Memory.{bytesAt, key, counter, attested, challenge, received, Sized}
+use Rattle.board.specs.Memory.{bytesAt, key, counter, attested, challenge, received}
+use Rattle.board.specs.Inner.{Sized}
 use Rattle.board.specs.Attestation.{attestCheck, due, accepted}
 use Rattle.board.specs.Promises.{Attests}
 

@@ -1,7 +1,6 @@
 -- What attestation reads in a board's memory, and where. Assumes nothing.
-use mathlib.Core.Path.{_≡_}
 use mathlib.Core.List.{List}
-use Prim.Native.Nat.{ℕ, _+_, _≤_}
+use Prim.Native.Nat.{ℕ, _+_}
 use lib.ListN.{take, drop}
 use Rattle.layout.specs.declared.Region.{Region}
 use Rattle.layout.specs.declared.Layout.{Layout}
@@ -38,10 +37,3 @@ replyAt l = l .mr .lo + 64
 
 abbrev pub replied : Layout → List ℕ → List ℕ
 replied l memory = bytesAt (replyAt l) 32 memory
-
--- the sizes that the page asks of these regions, as every layout that passes the check has them
-pub record Sized (l : Layout) : Type 0 where
-  pub key : size (l .kr) ≡ 64
-  pub mailbox : 96 ≤ size (l .mr)
-  pub counter : size (l .ctr) ≡ 32
-  pub region : 1 ≤ size (l .ar)

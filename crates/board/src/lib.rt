@@ -13,6 +13,7 @@ ghost use Rattle.routine.specs.Routine.{token, replyTo, requestCheck};
 ghost use Rattle.board.specs.Memory as M;
 ghost use Rattle.board.specs.Attestation as S;
 ghost use Rattle.board.specs.Promises as P;
+ghost use Rattle.board.specs.Inner as I;
 
 // The bytes of a challenge, a token or a reply. They stand in MR in this order.
 const STRING: usize = 32;
@@ -45,7 +46,7 @@ fn string(memory: &[u8], a: usize) -> &[u8]
 
 // Steps 1 and 2, which only read.
 fn authorise(memory: &[u8], l: Layout) -> Answer
-    requires { ⌜ (length (now memory) ≡ memoryBytes) × M.Sized l ⌝ }
+    requires { ⌜ (length (now memory) ≡ memoryBytes) × I.Sized l ⌝ }
     ensures { λ r. ⌜ row r
         ≡ row (requestCheck (M.key l (now (memory .entry))) (M.challenge l (now (memory .entry)))
         (M.received l (now (memory .entry))) (M.counter l (now (memory .entry)))) ⌝ }
@@ -60,7 +61,7 @@ fn authorise(memory: &[u8], l: Layout) -> Answer
 
 // The reply of step 3 to the token that came, which only reads.
 fn reply(memory: &[u8], l: Layout) -> [u8; 32]
-    requires { ⌜ (length (now memory) ≡ memoryBytes) × M.Sized l ⌝ }
+    requires { ⌜ (length (now memory) ≡ memoryBytes) × I.Sized l ⌝ }
     ensures { λ r. ⌜ r
         ≡ replyTo (M.key l (now (memory .entry))) (M.received l (now (memory .entry)))
         (M.attested l (now (memory .entry))) ⌝ }
@@ -85,7 +86,7 @@ fn copy(memory: &[u8], a: usize) -> [u8; 32]
 
 // Step 3: the reply is stored, and CTR becomes the challenge. The token that came is T.
 fn accept(memory: &mut [u8], l: Layout)
-    requires { ⌜ (length (now memory) ≡ memoryBytes) × M.Sized l
+    requires { ⌜ (length (now memory) ≡ memoryBytes) × I.Sized l
         × (token (M.key l (now memory)) (M.challenge l (now memory)) ≡ M.received l (now memory)) ⌝ }
     ensures { λ r. ⌜ now (memory .exit) ≡ S.accepted l (now (memory .entry)) ⌝ }
 {
@@ -99,7 +100,7 @@ fn accept(memory: &mut [u8], l: Layout)
 
 // The routine: steps 1 and 2 and, if they refuse nothing, step 3.
 fn answer(memory: &mut [u8], l: Layout) -> Answer
-    requires { ⌜ (length (now memory) ≡ memoryBytes) × M.Sized l ⌝ }
+    requires { ⌜ (length (now memory) ≡ memoryBytes) × I.Sized l ⌝ }
     ensures { λ r. ⌜ (row r
         ≡ row (requestCheck (M.key l (now (memory .entry))) (M.challenge l (now (memory .entry)))
         (M.received l (now (memory .entry))) (M.counter l (now (memory .entry)))))

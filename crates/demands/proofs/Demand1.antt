@@ -36,7 +36,7 @@ use Rattle.monitor.specs.declared.Traced.{Traced}
 use Rattle.monitor.specs.declared.Traced.the-variants as traced
 use Rattle.monitor.specs.Settled.{traced-row-settled, stepped-row-settled}
 use Rattle.monitor.specs.Runs.{count, steps, totals}
-use Rattle.monitor.specs.Promises.{misfits, unclean, traceCheck, stepCheck, values, tracedRow, remembered, steppedRow}
+use Rattle.monitor.specs.Promises.{misfits, unclean, traceCheck, stepCheck, totalsValues, tracedRow, remembered, steppedRow}
 use Rattle.monitor.proofs.Laws.{step-byte}
 use Rattle.reader.specs.declared.Read.{Read}
 use Rattle.reader.specs.declared.Read.the-variants as read
@@ -356,7 +356,7 @@ layout-answers layout r p =
 
 pub trace-answers : claim.TraceAnswers
 trace-answers memory layout trace room memory′ room′ r p =
-    answers-told _ (values (totals (layoutOf layout) trace memory)) r traced-rows
+    answers-told _ (totalsValues (totals (layoutOf layout) trace memory)) r traced-rows
     (once-call memory layout _ (once-trace trace room))
     (follows-call memory layout _ _ (follows-trace trace room))
     (λ e. omega arith) (p .answered)
@@ -377,7 +377,7 @@ attest-answers memory layout memory′ r p =
 
 pub judge-answers : claim.JudgeAnswers
 judge-answers file memory room memory′ room′ r p =
-    answers-told _ (values (fileTotals file)) r traced-rows
+    answers-told _ (totalsValues (fileTotals file)) r traced-rows
     (once-placed (once-first (once-call memory (body file LAYOUT) _ (once-first (once-trace (body file TRACE) room)))))
     (follows-judge file memory room)
     (λ e. omega arith) (p .answered)

@@ -23,7 +23,7 @@ use Rattle.monitor.specs.declared.Totals.{Totals}
 use Rattle.monitor.specs.declared.Traced.{Traced}
 use Rattle.monitor.specs.declared.Traced.the-variants.{Judged}
 use Rattle.monitor.specs.Runs.{stepSize, answerSize, count, steps, begin, said, resetting, roomAfter, totals}
-use Rattle.monitor.specs.Promises.{mostSteps, firstUnclean, traceCheck, values, tracedRow, Traces}
+use Rattle.monitor.specs.Promises.{mostSteps, firstUnclean, traceCheck, totalsValues, tracedRow, Traces}
 use Rattle.monitor.specs.Settled.{traced-row-settled}
 use Rattle.monitor.proofs.Checks.{traced-judged, traced-refused}
 use Rattle.runfile.specs.Contents.{LAYOUT, MEMORY, TRACE, mostBytes, entries, firstFailing, fileCheck, body}
@@ -82,10 +82,10 @@ same-check f x y room e =
 pub memory-unseen : claim.MemoryUnseen
 memory-unseen file x y room x′ room₁ y′ room₂ r q e j k =
     let c = same-check file x y room e in (
-      traced-row-settled r q (j .answered ∙ ap (λ (a : Answer). told a (values (fileTotals file))) c ∙ sym (k .answered)),
+      traced-row-settled r q (j .answered ∙ ap (λ (a : Answer). told a (totalsValues (fileTotals file))) c ∙ sym (k .answered)),
       j .room-left ∙ ap (λ (a : Answer). lent a (roomAfter (fileLayout file) (fileTrace file) (fileMemory file) room) room) c ∙ sym (k .room-left),
       λ t f.
-          let d = traced-judged (judgeCheck file x room) t (fileTotals file) (subst (λ (o : Traced). tracedRow o ≡ told (judgeCheck file x room) (values (fileTotals file))) f (j .answered)) in
+          let d = traced-judged (judgeCheck file x room) t (fileTotals file) (subst (λ (o : Traced). tracedRow o ≡ told (judgeCheck file x room) (totalsValues (fileTotals file))) f (j .answered)) in
           (simp (d .0) at (j .memory-left)) ∙ sym (simp (sym c ∙ d .0) at (k .memory-left)),
     )
 

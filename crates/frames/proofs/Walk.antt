@@ -15,7 +15,7 @@ use Rattle.frames.specs.declared.Framed.the-variants.{Needs, Whole, Cut}
 use Rattle.frames.specs.Calls.{most, counts, count, allowed}
 use Rattle.frames.specs.Frames.{size, behind, framedOne, andThen, framedFrom, framed, firstArgument, skipped, argument}
 use Rattle.frames.specs.Promises.{Copies}
-use Rattle.frames.specs.Walk.{isWhole}
+use Rattle.frames.specs.Inner.{isWhole}
 
 -- ---- answers
 

@@ -2,5 +2,5 @@ pub mod Calls
 pub mod Frames
 pub mod Promises
 pub mod Settled
-pub mod Walk
+pub mod Inner
 pub mod Streams

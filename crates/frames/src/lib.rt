@@ -5,7 +5,7 @@ ghost use lib.ListN.{length, drop};
 ghost use Rattle.frames.specs.Calls as C;
 ghost use Rattle.frames.specs.Frames as F;
 ghost use Rattle.frames.specs.Promises as P;
-ghost use Rattle.frames.specs.Walk as W;
+ghost use Rattle.frames.specs.Inner as W;
 
 // The bytes that one call's arguments have together at most, and those of the longest call.
 pub const MOST: usize = 262_144;

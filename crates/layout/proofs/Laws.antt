@@ -40,9 +40,6 @@ row-checkedAs (Refused r) l = refl
 pub is-checks : (b : List ℕ) (r : Checked) → r ≡ checkedAs (layoutCheck b) (layoutOf b) → Checks b r
 is-checks b r e = record { answered = ap checkedRow e ∙ row-checkedAs (layoutCheck b) (layoutOf b) }
 
-pub checks-is : (b : List ℕ) (r : Checked) → Checks b r → r ≡ checkedAs (layoutCheck b) (layoutOf b)
-checks-is b r p = checks-settled b r (checkedAs (layoutCheck b) (layoutOf b)) p (is-checks b (checkedAs (layoutCheck b) (layoutOf b)) refl)
-
 from-good : (a : Answer) (l m : Layout) → checked.Good m ≡ checkedAs a l → (a ≡ Done) × (m ≡ l)
 from-good Done l m e = (refl, cc)
 from-good (Refused r) l m e = absurd (let z : _≡_ {A = ℕ} 0 1 = cc in omega arith)
@@ -191,19 +188,6 @@ layout-numbers b =
     (refuses-test P (ltb (firstCollision b) 36) regionsShare 0 Done (omega arith, omega arith) (refuses-none P)))))
 
 -- ---- the regions of a layout that passes
-
--- its regions by name are those by number
-pub record Numbered (b : List ℕ) (l : Layout) : Type 0 where
-  pub cr : l .cr ≡ region b CR
-  pub kr : l .kr ≡ region b KR
-  pub xs : l .xs ≡ region b XS
-  pub mr : l .mr ≡ region b MR
-  pub ctr : l .ctr ≡ region b CTR
-  pub ar : l .ar ≡ region b AR
-
-pub layout-numbered : (b : List ℕ) → Numbered b (layoutOf b)
-unfolding layoutOf
-layout-numbered b = record { cr = refl; kr = refl; xs = refl; mr = refl; ctr = refl; ar = refl }
 
 pub zero-outside : (b : List ℕ) → layoutCheck b ≡ Done → within (layoutOf b .cr) 0 ≡ false
 unfolding layoutOf

@@ -25,7 +25,7 @@ use Rattle.monitor.specs.declared.Totals.{Totals}
 use Rattle.monitor.specs.declared.Stepped.the-variants as stepped
 use Rattle.monitor.specs.declared.Traced.the-variants as traced
 use Rattle.monitor.specs.Runs.{stepSize, answerSize, count, stepBytes, steps}
-use Rattle.monitor.specs.Promises.{mostSteps, unclean, firstUnclean, traceCheck, stepCheck, values, tracedRow, remembered, steppedRow}
+use Rattle.monitor.specs.Promises.{mostSteps, unclean, firstUnclean, traceCheck, stepCheck, totalsValues, tracedRow, remembered, steppedRow}
 use Rattle.monitor.specs.Settled.{monitor-settled, traced-row-settled}
 
 -- a trace that passes is whole steps, not too many, with room for the answers, and each step is clean
@@ -85,11 +85,11 @@ module _ (trace : List ℕ) (room : ℕ) (f : Fitting trace room) (i : ℕ) (h :
 
 -- ---- what a call that is not refused has told
 
-pub traced-judged : (a : Answer) (t u : Totals) → tracedRow (traced.Judged t) ≡ told a (values u) → (a ≡ Done) × (t ≡ u)
+pub traced-judged : (a : Answer) (t u : Totals) → tracedRow (traced.Judged t) ≡ told a (totalsValues u) → (a ≡ Done) × (t ≡ u)
 traced-judged Done t u e = (refl, cc (traced-row-settled (traced.Judged t) (traced.Judged u) e))
 traced-judged (Refused f) t u e = absurd (let z : _≡_ {A = ℕ} 0 1 = cc in omega arith)
 
-pub traced-refused : (a : Answer) (q : Refusal) (u : Totals) → tracedRow (traced.Refused q) ≡ told a (values u) → a ≡ Refused q
+pub traced-refused : (a : Answer) (q : Refusal) (u : Totals) → tracedRow (traced.Refused q) ≡ told a (totalsValues u) → a ≡ Refused q
 traced-refused Done q u e = absurd (let z : _≡_ {A = ℕ} 2 3 = ap length e in omega arith)
 traced-refused (Refused f) q u e = row-settled (Refused f) (Refused q) (sym e)
 

@@ -65,12 +65,12 @@ runCheck memory trace room =
 -- ---- answers
 
 -- the steps and the resets
-abbrev pub values : Totals → List ℕ
-values t = t .steps ∷ t .resets ∷ []
+abbrev pub totalsValues : Totals → List ℕ
+totalsValues t = t .steps ∷ t .resets ∷ []
 
 -- 0 and these, or the refusal's number and place
 abbrev pub tracedRow : Traced → List ℕ
-tracedRow (traced.Judged t) = 0 ∷ values t
+tracedRow (traced.Judged t) = 0 ∷ totalsValues t
 tracedRow (traced.Refused r) = A.row (call.Refused r)
 
 -- what the monitor remembers: held as 1 or 0, and the PC
@@ -88,7 +88,7 @@ steppedRow (stepped.Refused r) = A.row (call.Refused r)
 pub record Traces (memory layout trace room memory′ room′ : List ℕ) (r : Traced) : Type 0 where
   pub answered :
       tracedRow r
-      ≡ told (callCheck memory layout (traceCheck trace (length room))) (values (totals (layoutOf layout) trace memory))
+      ≡ told (callCheck memory layout (traceCheck trace (length room))) (totalsValues (totals (layoutOf layout) trace memory))
   pub memory-left :
       memory′
       ≡ lent (callCheck memory layout (traceCheck trace (length room))) (memoryAfter (layoutOf layout) trace memory) memory
@@ -120,6 +120,6 @@ GivesRecord trace n r = r ≡ pick (ltb n (count trace)) (stepBytes trace n) (re
 
 -- `run_with`, the run alone: whatever the steps' zero bits and bytes are, and however many there are
 pub record Runs (l : Layout) (trace memory room memory′ room′ : List ℕ) (r : Traced) : Type 0 where
-  pub answered : tracedRow r ≡ told (runCheck memory trace (length room)) (values (totals l trace memory))
+  pub answered : tracedRow r ≡ told (runCheck memory trace (length room)) (totalsValues (totals l trace memory))
   pub memory-left : memory′ ≡ lent (runCheck memory trace (length room)) (memoryAfter l trace memory) memory
   pub room-left : room′ ≡ lent (runCheck memory trace (length room)) (roomAfter l trace memory room) room

@@ -1,11 +1,10 @@
 -- The promises settle the answer and every lent byte. Assumes nothing.
-use mathlib.Core.Path.{_≡_, refl, ap, sym, _∙_}
-use mathlib.Core.Bool.{Bool, true, false}
+use mathlib.Core.Path.{_≡_, ap, sym, _∙_}
+use mathlib.Core.Bool.{Bool}
 use mathlib.Core.List.{List}
 use Prim.Native.Nat.{ℕ}
 use native.Mathlib.Omega.{arith}
-use Rattle.refusal.specs.Choice.{pick}
-use Rattle.refusal.specs.Settled.{row-settled}
+use Rattle.refusal.specs.Settled.{row-settled, flag-settled}
 use Rattle.refusal.specs.declared.Answer.{Answer}
 use Rattle.refusal.specs.declared.Answer.the-variants as call
 use Rattle.layout.specs.declared.Layout.{Layout}
@@ -28,15 +27,9 @@ traced-row-settled (traced.Judged t) (traced.Refused s) e = absurd (let z : _≡
 traced-row-settled (traced.Refused r) (traced.Judged u) e = absurd (let z : _≡_ {A = ℕ} 0 1 = cc in omega arith)
 traced-row-settled (traced.Refused r) (traced.Refused s) e = cc (row-settled (call.Refused r) (call.Refused s) e)
 
-pub held-settled : (a b : Bool) → pick {A = ℕ} a 1 0 ≡ pick b 1 0 → a ≡ b
-held-settled true true e = refl
-held-settled true false e = absurd (omega arith)
-held-settled false true e = absurd (omega arith)
-held-settled false false e = refl
-
 pub monitor-settled : (m n : Monitor) → remembered m ≡ remembered n → m ≡ n
 monitor-settled m n e =
-    let h : m .held ≡ n .held = held-settled (m .held) (n .held) (cc) in
+    let h : m .held ≡ n .held = flag-settled (m .held) (n .held) (cc) in
     let k : m .last ≡ n .last = cc in
     ap (λ (x : Bool). record { held = x; last = m .last }) h
     ∙ ap (λ (x : ℕ). record { held = n .held; last = x }) k

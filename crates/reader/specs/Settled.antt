@@ -5,10 +5,9 @@ use Prim.Native.Nat.{ℕ}
 use native.Mathlib.Omega.{arith}
 use lib.ListN.{length}
 use denote.Ref.{RefT}
-use Rattle.refusal.specs.Settled.{row-settled}
+use Rattle.refusal.specs.Settled.{row-settled, flag-settled}
 use Rattle.refusal.specs.declared.Answer.the-variants as call
 use Rattle.rules.specs.declared.Step.{Step}
-use Rattle.monitor.specs.Settled.{held-settled}
 use Rattle.reader.specs.declared.Read.{Read}
 use Rattle.reader.specs.declared.Read.the-variants as read
 use Rattle.reader.specs.declared.Advance.{Advance}
@@ -23,11 +22,11 @@ step-settled s t e =
     let pc : s .pc ≡ t .pc = cc in
     let cpu : s .cpu ≡ t .cpu = cc in
     let dma : s .dma ≡ t .dma = cc in
-    let reads = held-settled (s .reads) (t .reads) (cc) in
-    let writes = held-settled (s .writes) (t .writes) (cc) in
-    let interrupt = held-settled (s .interrupt) (t .interrupt) (cc) in
-    let active = held-settled (s .active) (t .active) (cc) in
-    let stores = held-settled (s .stores) (t .stores) (cc) in
+    let reads = flag-settled (s .reads) (t .reads) (cc) in
+    let writes = flag-settled (s .writes) (t .writes) (cc) in
+    let interrupt = flag-settled (s .interrupt) (t .interrupt) (cc) in
+    let active = flag-settled (s .active) (t .active) (cc) in
+    let stores = flag-settled (s .stores) (t .stores) (cc) in
     let cpudata : s .cpudata ≡ t .cpudata = cc in
     let dmadata : s .dmadata ≡ t .dmadata = cc in
     λ i. record {

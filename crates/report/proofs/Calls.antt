@@ -9,20 +9,20 @@ use Rattle.refusal.specs.declared.Answer.{Answer}
 use Rattle.refusal.specs.declared.Answer.the-variants as call
 use Rattle.monitor.specs.declared.Traced.{Traced}
 use Rattle.monitor.specs.declared.Traced.the-variants as traced
-use Rattle.monitor.specs.Promises.{values, tracedRow}
+use Rattle.monitor.specs.Promises.{totalsValues, tracedRow}
 use Rattle.monitor.specs.Settled.{traced-row-settled}
 use Rattle.monitor.proofs.Checks.{trace-passed}
 use Rattle.runfile.specs.Promises.{fileLayout, fileMemory, fileTrace, fileTotals, judgeCheck, Judges}
 use Rattle.runfile.proofs.Files.{admitted}
 use Rattle.report.specs.Text.{fileText}
-use Rattle.report.specs.Writing.{Wrote, textOf, Tellable}
+use Rattle.report.specs.Inner.{Wrote, textOf, Tellable}
 use Rattle.report.specs.Promises.{Writes}
 use Rattle.octets.proofs.Laid.{cut}
 use Rattle.report.proofs.Laws.{run-text}
 
 -- the room holds the answers of a file that is judged
 tellable-by : (f memory room : List ℕ) (a : Answer) (o : Traced) → judgeCheck f memory room ≡ a
-    → tracedRow o ≡ told a (values (fileTotals f)) → Tellable o (length room)
+    → tracedRow o ≡ told a (totalsValues (fileTotals f)) → Tellable o (length room)
 tellable-by f memory room call.Done o e w =
     let p = trace-passed (fileTrace f) (length room) (admitted f memory room e .trace) in
     subst (λ (x : Traced). Tellable x (length room)) (sym (traced-row-settled o (traced.Judged (fileTotals f)) w)) (p .most, p .roomy)

@@ -15,7 +15,7 @@ use Rattle.refusal.specs.First.{first}
 use Rattle.refusal.proofs.Tests.{cases}
 use Rattle.refusal.proofs.First.{first-most, first-least, first-is, first-none}
 use Rattle.report.specs.Text.{places, decimal}
-use Rattle.report.specs.Writing.{Wrote}
+use Rattle.report.specs.Inner.{Wrote}
 
 fewest : (n j : ℕ) → Fewest 10 1 n (suc j) → j ≤ 19 → suc j ≡ places n
 unfolding places

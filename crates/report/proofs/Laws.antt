@@ -17,11 +17,11 @@ use Rattle.monitor.specs.declared.Traced.{Traced}
 use Rattle.monitor.specs.declared.Traced.the-variants as traced
 use Rattle.effects.specs.Effects.{bytes}
 use Rattle.monitor.specs.Runs.{State, answerSize, count, begin, steps, said, answers, roomAfter, totals}
-use Rattle.monitor.specs.Promises.{values, tracedRow}
+use Rattle.monitor.specs.Promises.{totalsValues, tracedRow}
 use Rattle.monitor.specs.Settled.{traced-row-settled}
 use Rattle.monitor.proofs.Laws.{answer-at}
 use Rattle.report.specs.Text.{header, line, lines, totalsLine, judgedText, printed}
-use Rattle.report.specs.Writing.{answerAt, textOf}
+use Rattle.report.specs.Inner.{answerAt, textOf}
 
 -- ---- answers
 
@@ -67,7 +67,7 @@ unfolding judgedText
 judged-same a b t f = ap (λ (l : List ℕ). header ++ l ++ totalsLine t) (lines-same a b (t .steps) f)
 
 -- what is told of an answer, and of the room that it leaves, is what is printed of the run
-pub run-text : (l : Layout) (b memory room : List ℕ) (a : Answer) (o : Traced) → tracedRow o ≡ told a (values (totals l b memory))
+pub run-text : (l : Layout) (b memory room : List ℕ) (a : Answer) (o : Traced) → tracedRow o ≡ told a (totalsValues (totals l b memory))
     → textOf o (lent a (roomAfter l b memory room) room)
     ≡ printed a (judgedText (said l (steps b) (begin memory)) (totals l b memory))
 unfolding textOf

@@ -9,7 +9,7 @@ use lib.Seq.{sets, set-out}
 use Rattle.octets.proofs.Laid.{sets-append}
 use Rattle.effects.specs.declared.StepAnswer.{StepAnswer}
 use Rattle.report.specs.Text.{line, lines}
-use Rattle.report.specs.Writing.{Wrote}
+use Rattle.report.specs.Inner.{Wrote}
 
 -- one text and then another
 pub then : {a b c : List ℕ} {i j k : ℕ} {s t : List ℕ} → Wrote a b i s j → Wrote b c j t k → Wrote a c i (s ++ t) k

@@ -9,7 +9,7 @@ use Rattle.monitor.specs.declared.Traced.the-variants.{Judged, Refused}
 use Rattle.monitor.specs.Runs.{answerSize}
 use Rattle.monitor.specs.Promises.{mostSteps}
 use Rattle.report.specs.Text.{header, lines, totalsLine, refusedLine, judgedText}
-use Rattle.report.specs.Writing.{Wrote, answerAt, textOf, Tellable}
+use Rattle.report.specs.Inner.{Wrote, answerAt, textOf, Tellable}
 use Rattle.report.proofs.Lay.{then}
 
 pub room-for : (o : Traced) (room : ℕ) (t : Totals) → o ≡ Judged t → Tellable o room

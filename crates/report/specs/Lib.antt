@@ -1,4 +1,4 @@
 pub mod Text
-pub mod Writing
+pub mod Inner
 pub mod Promises
 pub mod Settled

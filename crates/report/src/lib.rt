@@ -11,8 +11,9 @@ ghost use mathlib.Core.List.{[], _∷_};
 ghost use Prim.Native.Nat.{_+_, _*_, _≤_, _<_};
 ghost use lib.ListN.{length};
 ghost use Rattle.io.specs.Digits.{digits};
+ghost use Rattle.monitor.specs.Runs as R;
 ghost use Rattle.report.specs.Text as T;
-ghost use Rattle.report.specs.Writing as W;
+ghost use Rattle.report.specs.Inner as W;
 ghost use Rattle.report.specs.Promises as P;
 
 // No text of a file is longer.
@@ -85,7 +86,7 @@ fn put_line(out: &mut [u8], at: usize, k: usize, a: StepAnswer) -> usize
 }
 
 fn answer_at(room: &[u8], k: usize) -> StepAnswer
-    requires { ⌜ 4 * k + 4 ≤ length (now room) ⌝ }
+    requires { ⌜ R.answerSize * k + R.answerSize ≤ length (now room) ⌝ }
     ensures { λ r. ⌜ r ≡ W.answerAt (now (room .entry)) k ⌝ }
 {
     let p = monitor::ANSWER * k;
@@ -99,7 +100,7 @@ fn answer_at(room: &[u8], k: usize) -> StepAnswer
 
 // The lines of the first n steps.
 fn put_lines(out: &mut [u8], from: usize, room: &[u8], n: usize) -> usize
-    requires { ⌜ (from ≤ 100) × (n ≤ 4096) × (4 * n ≤ length (now room)) ⌝ }
+    requires { ⌜ (from ≤ 100) × (n ≤ 4096) × (R.answerSize * n ≤ length (now room)) ⌝ }
     ensures { λ r. ⌜ W.Wrote (now (out .entry)) (now (out .exit)) from (T.lines (W.answerAt (now (room .entry))) n) r × (r ≤ from + 15 * n) ⌝ }
 {
     let mut at = from;

@@ -22,7 +22,8 @@ use Rattle.monitor.specs.Promises.{traceCheck, Fits, Runs}
 use Rattle.monitor.proofs.Checks.{trace-passed}
 use Rattle.monitor.proofs.Calls.{run-passes}
 use Rattle.runfile.specs.Segments.{segmentCheck, described}
-use Rattle.runfile.specs.Promises.{bodiesCheck, JudgesBodies}
+use Rattle.runfile.specs.Promises.{bodiesCheck}
+use Rattle.runfile.specs.Inner.{JudgesBodies}
 use Rattle.runfile.proofs.Described.{length-described}
 
 -- ---- the segments, and then the trace

@@ -18,7 +18,8 @@ use Rattle.monitor.specs.declared.Traced.the-variants as traced
 use Rattle.monitor.specs.Promises.{traceCheck}
 use Rattle.runfile.specs.Contents.{LAYOUT, MEMORY, TRACE, fileCheck, body}
 use Rattle.runfile.specs.Segments.{segmentCheck}
-use Rattle.runfile.specs.Promises.{bodiesCheck, judgeCheck, JudgesBodies, Judges}
+use Rattle.runfile.specs.Promises.{bodiesCheck, judgeCheck, Judges}
+use Rattle.runfile.specs.Inner.{JudgesBodies}
 use Rattle.runfile.proofs.Entries.{Sound, sound}
 
 -- what the check of the contents has answered

@@ -9,6 +9,7 @@ use Rattle.refusal.specs.Choice.{pick}
 use Rattle.refusal.specs.First.{first}
 use Rattle.refusal.specs.Answers.{refusedAt}
 use Rattle.refusal.specs.Numbers.{contents, fileSize}
+use Rattle.layout.specs.Layouts.{layoutBytes}
 use Rattle.refusal.specs.declared.Answer.{Answer}
 use Rattle.refusal.specs.declared.Answer.the-variants.{Done}
 
@@ -32,10 +33,6 @@ MEMORY = 1
 
 abbrev pub TRACE : ℕ
 TRACE = 2
-
--- the layout's length
-abbrev pub layoutBytes : ℕ
-layoutBytes = 24
 
 -- the offset and the length that entry k names, each in four bytes
 abbrev pub offset : List ℕ → ℕ → ℕ

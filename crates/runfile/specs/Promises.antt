@@ -11,7 +11,7 @@ use Rattle.layout.specs.Calls.{callCheck}
 use Rattle.monitor.specs.declared.Totals.{Totals}
 use Rattle.monitor.specs.declared.Traced.{Traced}
 use Rattle.monitor.specs.Runs.{memoryAfter, roomAfter, totals}
-use Rattle.monitor.specs.Promises.{traceCheck, values, tracedRow}
+use Rattle.monitor.specs.Promises.{traceCheck, totalsValues, tracedRow}
 use Rattle.runfile.specs.Contents.{LAYOUT, MEMORY, TRACE, fileCheck, body}
 use Rattle.runfile.specs.Segments.{segmentCheck, described}
 
@@ -44,20 +44,8 @@ memoryLeft f memory room = lent (judgeCheck f memory room) (memoryAfter (fileLay
 abbrev pub roomLeft : List ℕ → List ℕ → List ℕ → List ℕ
 roomLeft f memory room = lent (judgeCheck f memory room) (roomAfter (fileLayout f) (fileTrace f) (fileMemory f) room) room
 
--- behind `judge`, what the three bodies come to; memory and room are lent, and memory′ and room′ are what stands there afterwards
-pub record JudgesBodies (layout segments trace memory room memory′ room′ : List ℕ) (r : Traced) : Type 0 where
-  pub answered :
-      tracedRow r
-      ≡ told (bodiesCheck layout segments trace memory room) (values (totals (layoutOf layout) trace (described segments)))
-  pub memory-left :
-      memory′
-      ≡ lent (bodiesCheck layout segments trace memory room) (memoryAfter (layoutOf layout) trace (described segments)) memory
-  pub room-left :
-      room′
-      ≡ lent (bodiesCheck layout segments trace memory room) (roomAfter (layoutOf layout) trace (described segments) room) room
-
 -- `judge`: memory and room are lent, and memory′ and room′ are what stands there afterwards
 pub record Judges (file memory room memory′ room′ : List ℕ) (r : Traced) : Type 0 where
-  pub answered : tracedRow r ≡ told (judgeCheck file memory room) (values (fileTotals file))
+  pub answered : tracedRow r ≡ told (judgeCheck file memory room) (totalsValues (fileTotals file))
   pub memory-left : memory′ ≡ memoryLeft file memory room
   pub room-left : room′ ≡ roomLeft file memory room

@@ -14,6 +14,7 @@ ghost use Rattle.monitor.specs.Promises.{traceCheck};
 ghost use Rattle.runfile.specs.Contents as C;
 ghost use Rattle.runfile.specs.Segments as S;
 ghost use Rattle.runfile.specs.Promises as P;
+ghost use Rattle.runfile.specs.Inner as I;
 
 // The most bytes of a run file.
 pub const MOST: usize = 49_152;
@@ -187,7 +188,7 @@ fn judge_bodies(
     room: &mut [u8],
 ) -> Traced
     requires { ⌜ length (now body) ≤ C.mostBytes ⌝ }
-    ensures { λ r. ⌜ P.JudgesBodies (now (layout .entry)) (now (body .entry)) (now (trace .entry)) (now (memory .entry)) (now (room .entry))
+    ensures { λ r. ⌜ I.JudgesBodies (now (layout .entry)) (now (body .entry)) (now (trace .entry)) (now (memory .entry)) (now (room .entry))
         (now (memory .exit)) (now (room .exit)) r ⌝ }
 {
     let rest = check_bodies(body, trace, room.len());

@@ -11,7 +11,7 @@ use Rattle.layout.specs.Calls.{callCheck}
 use Rattle.board.specs.Promises.{Attests}
 use Rattle.monitor.specs.declared.Traced.{Traced}
 use Rattle.monitor.specs.Runs.{totals}
-use Rattle.monitor.specs.Promises.{values, tracedRow, traceCheck, Traces}
+use Rattle.monitor.specs.Promises.{totalsValues, tracedRow, traceCheck, Traces}
 use Rattle.runfile.specs.Promises.{judgeCheck, fileTotals, Judges}
 use Rattle.speed.specs.Promises.{answerNumber, tracedNumber, NumbersAttest, NumbersTrace, Numbers}
 
@@ -34,7 +34,7 @@ pub trace-number : (memory layout trace room memory′ room′ : List ℕ) (o : 
 trace-number memory layout trace room memory′ room′ o r j n =
     record {
       answered = begins r (tracedRow o) _ n (j .answered)
-          ∙ told-number (callCheck memory layout (traceCheck trace (length room))) (values (totals (layoutOf layout) trace memory));
+          ∙ told-number (callCheck memory layout (traceCheck trace (length room))) (totalsValues (totals (layoutOf layout) trace memory));
       memory-left = j .memory-left;
       room-left = j .room-left;
     }
@@ -44,7 +44,7 @@ pub judge-number : (file memory room memory′ room′ : List ℕ) (o : Traced) 
     → Numbers file memory room memory′ room′ r
 judge-number file memory room memory′ room′ o r j n =
     record {
-      answered = begins r (tracedRow o) _ n (j .answered) ∙ told-number (judgeCheck file memory room) (values (fileTotals file));
+      answered = begins r (tracedRow o) _ n (j .answered) ∙ told-number (judgeCheck file memory room) (totalsValues (fileTotals file));
       memory-left = j .memory-left;
       room-left = j .room-left;
     }

@@ -5,7 +5,7 @@ use Prim.Native.Nat.{_+_, _-_, _*_, _≤_}
 use native.Mathlib.Omega.{arith}
 use lib.ListN.{length}
 use Rattle.report.specs.Text.{lines}
-use Rattle.report.specs.Writing.{Wrote, answerAt}
+use Rattle.report.specs.Inner.{Wrote, answerAt}
 use Rattle.report.proofs.Lay.{nothing, line-more, lines-whole}
 use Rattle.report.proofs.put_lines.Statement.{statement}
 use Rattle.report.proofs.put_lines.Tie as tie

@@ -21,10 +21,10 @@ use Rattle.layout.specs.declared.Layout.{Layout}
 use Rattle.layout.specs.declared.Checked.{Checked}
 use Rattle.layout.specs.declared.Checked.the-variants as checked
 use Rattle.layout.specs.Regions.{within, reversed, size, shares}
-use Rattle.layout.specs.Layouts.{CR, KR, XS, MR, CTR, AR, region, layoutOf, wrongSize, mayShare, collide, layoutCheck}
+use Rattle.layout.specs.Layouts.{CR, KR, MR, CTR, region, layoutOf, wrongSize, mayShare, collide, layoutCheck}
 use Rattle.layout.specs.Layouts.{firstReversed, firstWrongSize, firstCollision}
 use Rattle.layout.specs.Promises.{layoutValues, checkedRow, Checks}
-use Rattle.layout.specs.Settled.{checked-row-settled, checks-settled}
+use Rattle.layout.specs.Settled.{checked-row-settled}
 use Rattle.layout.specs.Good.{Good}
 
 -- ---- what `check` answers

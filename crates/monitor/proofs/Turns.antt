@@ -12,11 +12,11 @@ use Rattle.refusal.specs.Choice.{pick}
 use Rattle.layout.specs.declared.Layout.{Layout}
 use Rattle.rules.specs.declared.Step.{Step}
 use Rattle.rules.specs.declared.Monitor.{Monitor}
-use Rattle.rules.specs.Rules.{cause, resets, start, next}
+use Rattle.rules.specs.Rules.{cause, resets, start}
 use Rattle.effects.specs.declared.StepAnswer.{StepAnswer}
 use Rattle.monitor.specs.declared.Totals.{Totals}
 use Rattle.effects.specs.declared.Judged.{Judged}
-use Rattle.effects.specs.Effects.{answer, bytes, written}
+use Rattle.effects.specs.Effects.{answer, bytes}
 use Rattle.effects.specs.Promises.{Acts}
 use Rattle.effects.proofs.Laws.{answer-cause}
 use Rattle.monitor.specs.Runs.{count, steps, begin, before, said, answers, resetting, memoryAfter, roomAfter, totals}

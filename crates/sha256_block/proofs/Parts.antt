@@ -4,7 +4,7 @@ use mathlib.Core.List.{List, [], _∷_}
 use Prim.Native.Nat.{ℕ}
 use Rattle.sha256_block.specs.declared.Vars.{Vars}
 use Rattle.sha256_block.specs.Words.{add}
-use Rattle.sha256_block.specs.Block.{next, schedule, load, round, rounds, addTo, compress}
+use Rattle.sha256_block.specs.Block.{schedule, load, rounds, addTo, compress}
 
 -- a sum, of which one side is known otherwise
 pub add-left : (r x y z : ℕ) → r ≡ add x z → x ≡ y → r ≡ add y z

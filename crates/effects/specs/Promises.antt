@@ -1,4 +1,4 @@
--- What the call for one step promises, and what it offers to the crates above, for all inputs. Assumes nothing.
+-- What `judge` promises, for all inputs. Assumes nothing.
 use mathlib.Core.Path.{_≡_}
 use mathlib.Core.List.{List}
 use Prim.Native.Nat.{ℕ}

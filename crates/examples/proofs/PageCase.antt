@@ -6,6 +6,7 @@ use lib.ListN.{length}
 use borrow.Author.Tests.{le-ltb}
 use Rattle.refusal.specs.First.{first}
 use Rattle.refusal.specs.declared.Answer.the-variants as call
+use Rattle.octets.specs.Numbers.{number}
 use Rattle.layout.specs.Layouts.{layoutOf, layoutCheck}
 use Rattle.rules.specs.Steps.{stepOf}
 use Rattle.rules.specs.Rules.{cause, next}
@@ -19,16 +20,16 @@ use Rattle.runfile.specs.Promises.{fileLayout, fileMemory, fileTrace, fileTotal
 use Rattle.examples.specs.PageCase as claim
 
 printed : judgedText (said (fileLayout claim.file) (steps (fileTrace claim.file)) (begin (fileMemory claim.file))) (fileTotals claim.file) ≡ claim.text
-unfolding first layoutOf stepOf cause next exposing answer stored storing written before resetting begins body place reached segments image places decimal line lines totalsLine judgedText
+unfolding first layoutOf stepOf cause next exposing answer stored storing written before resetting begins number body place reached segments image places decimal line lines totalsLine judgedText
 printed = refl
 
 contents-pass : fileCheck claim.file ≡ call.Done
-unfolding fileCheck firstFailing first entryFails begins
+unfolding fileCheck firstFailing first entryFails begins number
 contents-pass = refl
 
 bodies-pass : (memory room : List ℕ) → length memory ≡ 65536 → 28 ≤ length room
     → bodiesCheck (body claim.file 0) (body claim.file 1) (body claim.file 2) memory room ≡ call.Done
-unfolding bodiesCheck body begins layoutCheck segmentCheck firstWrong segments segmentFails place reached first traceCheck
+unfolding bodiesCheck body begins number layoutCheck segmentCheck firstWrong segments segmentFails place reached first traceCheck
 bodies-pass memory room h g = simp (h, le-ltb (length room) 28 g)
 
 pub page-case : claim.PageCase

@@ -11,6 +11,7 @@ use Rattle.sha256_block.specs.Constants.{K, H}
 use Rattle.sha256_block.specs.Block.{next, schedule, round, rounds, addTo, compress, blocks}
 use Rattle.sha256.specs.Hash.{padding, out, sha256}
 use Rattle.hmac.specs.Hmac.{k0, xored, hmac}
+use Rattle.octets.specs.Numbers.{number}
 use Rattle.layout.specs.Layouts.{layoutOf, layoutCheck}
 use Rattle.monitor.specs.declared.Traced.the-variants as traced
 use Rattle.monitor.specs.Promises.{traceCheck, Traces}
@@ -80,11 +81,11 @@ forged-request = refl
 
 -- files
 overlapping-told : fileCheck claim.overlapping ≡ call.Done
-unfolding fileCheck firstFailing first entryFails begins
+unfolding fileCheck firstFailing first entryFails begins number
 overlapping-told = refl
 
 overlapping-bodies : bodiesCheck (body claim.overlapping 0) (body claim.overlapping 1) (body claim.overlapping 2) claim.zeroMemory [] ≡ refusedAt 14 1
-unfolding bodiesCheck body begins segmentCheck firstWrong segments segmentFails place reached first
+unfolding bodiesCheck body begins number segmentCheck firstWrong segments segmentFails place reached first
 overlapping-bodies = simp (length-zero-memory, page-layout .passes)
 
 pub each-refusal : claim.EachRefusal

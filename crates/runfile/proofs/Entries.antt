@@ -15,7 +15,8 @@ use Rattle.refusal.specs.declared.Answer.the-variants.{Done}
 use Rattle.refusal.proofs.Tests.{cases, neither}
 use Rattle.refusal.proofs.First.{Passed, passed-zero, passed-more, passed-found, passed-all, none-found}
 use Rattle.refusal.proofs.Order.{done-passed}
-use Rattle.runfile.specs.Contents.{mostBytes, contentsSize, entries, LAYOUT, MEMORY, TRACE, layoutBytes, offset, size, begins, failsFrom}
+use Rattle.layout.specs.Layouts.{layoutBytes}
+use Rattle.runfile.specs.Contents.{mostBytes, contentsSize, entries, LAYOUT, MEMORY, TRACE, offset, size, begins, failsFrom}
 use Rattle.runfile.specs.Contents.{entryFails, firstFailing, fileCheck, body}
 
 -- ---- one entry

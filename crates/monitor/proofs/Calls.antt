@@ -5,7 +5,7 @@ use Prim.Native.Nat.{ℕ, _*_, _≤_, _<_}
 use native.Mathlib.Omega.{arith}
 use lib.ListN.{length, drop}
 use borrow.Author.Tests.{eq-eqb, ne-eqb, lt-ltb, le-ltb}
-use Rattle.refusal.specs.Answers.{row, refusedAt}
+use Rattle.refusal.specs.Answers.{row, refusedAt, told, lent}
 use Rattle.refusal.specs.Numbers.{memorySize, roomSize}
 use Rattle.refusal.specs.Settled.{row-settled}
 use Rattle.refusal.specs.declared.Refusal.{Refusal}
@@ -14,10 +14,12 @@ use Rattle.refusal.specs.declared.Answer.the-variants.{Done, Refused}
 use Rattle.layout.specs.declared.Layout.{Layout}
 use Rattle.layout.specs.declared.Checked.{Checked}
 use Rattle.layout.specs.declared.Checked.the-variants as checked
+use Rattle.layout.specs.Layouts.{layoutOf}
 use Rattle.layout.specs.Promises.{Admits}
 use Rattle.layout.proofs.Calls.{call-passed, admitted-good, admitted-refused}
 use Rattle.rules.specs.declared.Monitor.{Monitor}
 use Rattle.monitor.specs.declared.Totals.{Totals}
+use Rattle.monitor.specs.declared.Traced.{Traced}
 use Rattle.monitor.specs.declared.Stepped.the-variants as stepped
 use Rattle.monitor.specs.declared.Traced.the-variants as traced
 use Rattle.effects.specs.declared.StepAnswer.{StepAnswer}
@@ -25,7 +27,7 @@ use Rattle.effects.specs.declared.Judged.{Judged}
 use Rattle.effects.specs.Effects.{bytes}
 use Rattle.effects.specs.Promises.{Acts}
 use Rattle.monitor.specs.Runs.{count, steps, memoryAfter, roomAfter, totals}
-use Rattle.monitor.specs.Promises.{traceCheck, stepCheck, runCheck, Traces, Steps, Runs}
+use Rattle.monitor.specs.Promises.{traceCheck, stepCheck, runCheck, totalsValues, Traces, Steps, Runs}
 use Rattle.monitor.proofs.Checks.{trace-passed, step-passed}
 
 -- `admit` was given what the check of the other lengths and the steps says
@@ -35,13 +37,6 @@ admitted memory layout rest check r q e a f =
     subst (Admits memory layout check) f (subst (λ (x : Answer). Admits memory layout x r) (row-settled rest check e) a)
 
 module _ (memory layout b room : List ℕ) (l : Layout) where
-  pub trace-admitted : Admits memory layout (traceCheck b (length room)) (checked.Good l)
-      → 4 * count b ≤ length room
-  trace-admitted e =
-      let g = admitted-good memory layout (traceCheck b (length room)) l e in
-      let p = call-passed memory layout (traceCheck b (length room)) (g .0) in
-      trace-passed b (length room) (p .2) .roomy
-
   pub step-admitted : Admits memory layout (stepCheck b (length room)) (checked.Good l)
       → (12 ≤ length b) × (4 ≤ length room)
   step-admitted e =
@@ -49,15 +44,6 @@ module _ (memory layout b room : List ℕ) (l : Layout) where
       let p = call-passed memory layout (stepCheck b (length room)) (g .0) in
       let q = step-passed b (length room) (p .2) in
       (omega arith, q .1)
-
-module _ (memory layout b room memory′ room′ : List ℕ) where
-  pub judged : (l : Layout) (r : Totals) → Admits memory layout (traceCheck b (length room)) (checked.Good l)
-      → (r ≡ totals l b memory) × (memory′ ≡ memoryAfter l b memory) × (room′ ≡ roomAfter l b memory room)
-      → Traces memory layout b room memory′ room′ (traced.Judged r)
-  judged l r e d =
-      let g = admitted-good memory layout (traceCheck b (length room)) l e in
-      let f = rw (g .1) at d in
-      record { answered = simp (g .0, f .0); memory-left = simp (g .0) (f .1); room-left = simp (g .0) (f .2) }
 
 pub refused : (memory layout b room : List ℕ) (r : Refusal) → Admits memory layout (traceCheck b (length room)) (checked.Refused r)
     → Traces memory layout b room memory room (traced.Refused r)
@@ -90,6 +76,21 @@ step-refused memory layout b m room r e =
 pub run-passes : (b memory : List ℕ) (room : ℕ) → length memory ≡ 65536 → 4 * count b ≤ room → runCheck memory b room ≡ Done
 unfolding runCheck
 run-passes b memory room h g = simp (eq-eqb (length memory) 65536 h, le-ltb room (4 * count b) g)
+
+-- a trace that is admitted gets what the run alone gives
+pub ran : (memory layout b room memory′ room′ : List ℕ) (l : Layout) (r : Traced)
+    → Admits memory layout (traceCheck b (length room)) (checked.Good l) → Runs l b memory room memory′ room′ r
+    → Traces memory layout b room memory′ room′ r
+ran memory layout b room memory′ room′ l r e d =
+    let g = admitted-good memory layout (traceCheck b (length room)) l e in
+    let p = call-passed memory layout (traceCheck b (length room)) (g .0) in
+    let c = run-passes b memory (length room) (p .0) (trace-passed b (length room) (p .2) .roomy) in
+    let f = rw (g .1) at d in
+    record {
+      answered = simp (g .0) (f .answered ∙ ap (λ (a : Answer). told a (totalsValues (totals (layoutOf layout) b memory))) c);
+      memory-left = simp (g .0) (f .memory-left ∙ ap (λ (a : Answer). lent a (memoryAfter (layoutOf layout) b memory) memory) c);
+      room-left = simp (g .0) (f .room-left ∙ ap (λ (a : Answer). lent a (roomAfter (layoutOf layout) b memory room) room) c);
+    }
 
 pub run-of : (l : Layout) (b memory room memory′ room′ : List ℕ) (r : Totals) → length memory ≡ 65536 → 4 * count b ≤ length room
     → (r ≡ totals l b memory) × (memory′ ≡ memoryAfter l b memory) × (room′ ≡ roomAfter l b memory room)

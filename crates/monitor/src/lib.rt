@@ -197,7 +197,7 @@ pub fn trace(memory: &mut [u8], layout: &[u8], trace: &[u8], room: &mut [u8]) ->
 {
     let rest = fits(trace, room.len());
     match layout::admit(memory, layout, rest) {
-        Checked::Good(l) => Traced::Judged(run(l, trace, memory, room)),
+        Checked::Good(l) => run_with(l, trace, memory, room),
         Checked::Refused(r) => Traced::Refused(r),
     }
 }

@@ -1,6 +1,6 @@
 -- `monitor::trace` meets its contract. Assumes nothing.
 use borrow.Author.Needs.{needs}
-use Rattle.monitor.proofs.Calls.{admitted, trace-admitted, judged, refused}
+use Rattle.monitor.proofs.Calls.{admitted, ran, refused}
 use Rattle.monitor.proofs.trace.Statement.{statement}
 use Rattle.monitor.proofs.trace.Tie as tie
 
@@ -13,10 +13,8 @@ admit-requires c κs = search needs
 enum-known-l : tie.Need-enum-known-l
 enum-known-l c = search needs
 
-run-requires : tie.Need-run-requires
-run-requires c κs =
-    let h = c .before .before .before .before .before .before .before .before .before .before .before .before .args in
-    trace-admitted (h .memory .now) (h .layout .now) (h .trace .now) (h .room .now) _ (admitted (h .memory .now) (h .layout .now) _ _ _ _ (c .before .before .before .before .before .before .before .fits2 .ensures .answered) (c .before .before .before .before .before .admit .ensures) (c .before .before .before .l .given .1))
+run-with-requires : tie.Need-run-with-requires
+run-with-requires c κs = search needs
 
 enum-known-r : tie.Need-enum-known-r
 enum-known-r c = search needs
@@ -30,7 +28,7 @@ same-length-2 c = search needs
 returns : tie.Need-returns
 returns c =
     let h = c .before .before .before .before .before .before .before .before .before .before .before .before .before .before .before .before .before .args in
-    judged (h .memory .now) (h .layout .now) (h .trace .now) (h .room .now) _ _ _ _ (admitted (h .memory .now) (h .layout .now) _ _ _ _ (c .before .before .before .before .before .before .before .before .before .before .before .before .fits2 .ensures .answered) (c .before .before .before .before .before .before .before .before .before .before .admit .ensures) (c .before .before .before .before .before .before .before .before .l .given .1)) (c .before .before .before .before .run .ensures)
+    ran (h .memory .now) (h .layout .now) (h .trace .now) (h .room .now) _ _ _ _ (admitted (h .memory .now) (h .layout .now) _ _ _ _ (c .before .before .before .before .before .before .before .before .before .before .before .before .fits2 .ensures .answered) (c .before .before .before .before .before .before .before .before .before .before .admit .ensures) (c .before .before .before .before .before .before .before .before .l .given .1)) (c .before .before .before .before .run-with .ensures)
 
 same-length-3 : tie.Need-same-length-3
 same-length-3 c = search needs
@@ -47,7 +45,7 @@ trace-spec =
     fits-requires
     admit-requires
     enum-known-l
-    run-requires
+    run-with-requires
     enum-known-r
     same-length
     same-length-2

@@ -1,6 +1,6 @@
 // A call in a stream of bytes: whether it is whole, and its arguments.
 ghost use mathlib.Core.Path.{_≡_};
-ghost use Prim.Native.Nat.{_≤_, min};
+ghost use Prim.Native.Nat.{_≤_};
 ghost use lib.ListN.{length, drop};
 ghost use Rattle.frames.specs.Calls as C;
 ghost use Rattle.frames.specs.Frames as F;
@@ -153,20 +153,14 @@ fn begin(bytes: &[u8], i: usize) -> usize
     at
 }
 
-fn least(a: usize, b: usize) -> usize
-    ensures { λ r. ⌜ r ≡ min a b ⌝ }
-{
-    if a < b { a } else { b }
-}
-
 // Copies argument i of a call to the room's start, as much of it as fits, and answers how much that is.
 pub fn argument(bytes: &[u8], i: usize, room: &mut [u8]) -> usize
     ensures { λ r. ⌜ P.Copies (now (bytes .entry)) i (now (room .entry)) (now (room .exit)) r ⌝ }
 {
     let at = begin(bytes, i);
     let n = bytes.len();
-    let from = at + least(n - at, 4);
-    let size = least(size_at(bytes, at), n - from);
-    let fits = least(size, room.len());
+    let from = at + octets::least(n - at, 4);
+    let size = octets::least(size_at(bytes, at), n - from);
+    let fits = octets::least(size, room.len());
     bytes::copy(&bytes[from..from + fits], room)
 }

@@ -1,6 +1,6 @@
 // Bytes as numbers, and bytes stored at a place. Numbers have their lightest byte first.
 ghost use mathlib.Core.Path.{_≡_};
-ghost use Prim.Native.Nat.{_^_, _≤_, _<_, min};
+ghost use Prim.Native.Nat.{_^_, _≤_, _<_};
 ghost use lib.ListN.{length};
 ghost use Rattle.octets.specs.Numbers as N;
 ghost use Rattle.octets.specs.Promises as P;
@@ -50,8 +50,9 @@ fn few_at(bytes: &[u8], from: usize, k: usize) -> u64
     few(&bytes[from..from + k])
 }
 
-fn least(a: usize, b: usize) -> usize
-    ensures { λ r. ⌜ r ≡ min a b ⌝ }
+// The smaller of two numbers.
+pub fn least(a: usize, b: usize) -> usize
+    ensures { λ r. ⌜ P.IsLeast a b r ⌝ }
 {
     if a < b { a } else { b }
 }

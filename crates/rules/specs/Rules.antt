@@ -24,7 +24,7 @@ cpuReads r s = s .reads && within r (s .cpu)
 abbrev pub cpuWrites : Region → Step → Bool
 cpuWrites r s = s .writes && within r (s .cpu)
 
--- the attestation code does: the CPU writes in a region with PC in CR
+-- the attestation code writes in a region: PC in CR, and the CPU writes there
 abbrev pub codeWrites : Region → Layout → Step → Bool
 codeWrites r l s = within (l .cr) (s .pc) && cpuWrites r s
 

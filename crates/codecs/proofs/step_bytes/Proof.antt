@@ -5,7 +5,7 @@ use Rattle.codecs.proofs.step_bytes.Statement.{statement}
 use Rattle.codecs.proofs.step_bytes.Tie as tie
 
 flags-requires : tie.Need-flags-requires
-flags-requires c κs = search needs
+flags-requires c κs = tt
 
 cast-t4 : tie.Need-cast-t4
 cast-t4 c = search needs

@@ -1,32 +1,31 @@
 -- `codecs::words_of` meets its contract. Assumes nothing.
-use borrow.Author.Needs.{needs}
 use Rattle.codecs.proofs.States.{eight-words}
 use Rattle.codecs.proofs.words_of.Statement.{statement}
 use Rattle.codecs.proofs.words_of.Tie as tie
 
 word-at-requires : tie.Need-word-at-requires
-word-at-requires c κs = search needs
+word-at-requires c κs = tt
 
 word-at-requires-2 : tie.Need-word-at-requires-2
-word-at-requires-2 c κs = search needs
+word-at-requires-2 c κs = tt
 
 word-at-requires-3 : tie.Need-word-at-requires-3
-word-at-requires-3 c κs = search needs
+word-at-requires-3 c κs = tt
 
 word-at-requires-4 : tie.Need-word-at-requires-4
-word-at-requires-4 c κs = search needs
+word-at-requires-4 c κs = tt
 
 word-at-requires-5 : tie.Need-word-at-requires-5
-word-at-requires-5 c κs = search needs
+word-at-requires-5 c κs = tt
 
 word-at-requires-6 : tie.Need-word-at-requires-6
-word-at-requires-6 c κs = search needs
+word-at-requires-6 c κs = tt
 
 word-at-requires-7 : tie.Need-word-at-requires-7
-word-at-requires-7 c κs = search needs
+word-at-requires-7 c κs = tt
 
 word-at-requires-8 : tie.Need-word-at-requires-8
-word-at-requires-8 c κs = search needs
+word-at-requires-8 c κs = tt
 
 returns : tie.Need-returns
 returns c = cc (eight-words (c .before .before .before .before .before .before .before .before .before .args .bytes .now))

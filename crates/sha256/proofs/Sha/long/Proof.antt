@@ -24,7 +24,7 @@ slice-aggregate-blocks : tie.Need-slice-aggregate-blocks
 slice-aggregate-blocks c = search needs
 
 blocks-requires : tie.Need-blocks-requires
-blocks-requires c κs = search needs
+blocks-requires c κs = tt
 
 sub-blocks : tie.Need-sub-blocks
 sub-blocks c = search needs
@@ -39,7 +39,7 @@ part-blocks-end : tie.Need-part-blocks-end
 part-blocks-end c = search needs
 
 blocks-requires-2 : tie.Need-blocks-requires-2
-blocks-requires-2 c κs = search needs
+blocks-requires-2 c κs = tt
 
 add-block-of : tie.Need-add-block-of
 add-block-of c = search needs
@@ -57,7 +57,7 @@ part-block-of-end : tie.Need-part-block-of-end
 part-block-of-end c = search needs
 
 block-of-requires : tie.Need-block-of-requires
-block-of-requires c κs = search needs
+block-of-requires c κs = tt
 
 add-self : tie.Need-add-self
 add-self c = search needs

@@ -48,6 +48,6 @@ monitor-is b x y z w p q r s =
 -- a step's bytes, of which one is the flags
 pub step-is : (s : Step) (f : ℕ) → f ≡ flags s
     → s .pc % 256 ∷ s .pc / 256 % 256 ∷ s .cpu % 256 ∷ s .cpu / 256 % 256 ∷ s .dma % 256 ∷ s .dma / 256 % 256 ∷ f ∷ s .cpudata ∷ s .dmadata ∷ 0 ∷ 0 ∷ 0 ∷ []
-      ≡ encode s
+    ≡ encode s
 unfolding encode
 step-is s f e = λ i. s .pc % 256 ∷ s .pc / 256 % 256 ∷ s .cpu % 256 ∷ s .cpu / 256 % 256 ∷ s .dma % 256 ∷ s .dma / 256 % 256 ∷ e i ∷ s .cpudata ∷ s .dmadata ∷ 0 ∷ 0 ∷ 0 ∷ []

@@ -1,8 +1,8 @@
--- A state of the running hash, and a monitor, read from bytes. Assumes nothing.
-use mathlib.Core.Path.{_≡_, ap, sym}
+-- A state of the running hash, and a monitor, read from bytes, and the bytes of a step. Assumes nothing.
+use mathlib.Core.Path.{_≡_, ap, sym, _∙_}
 use mathlib.Core.Bool.{not}
 use mathlib.Core.List.{List, [], _∷_}
-use Prim.Native.Nat.{ℕ, _-_, _<_}
+use Prim.Native.Nat.{ℕ, _-_, _/_, _%_, _<_}
 use native.Mathlib.Omega.{arith}
 use lib.Dec.{eqb}
 use lib.ListN.{length, getD, take, drop, length-drop, drop-of-length-le}
@@ -11,12 +11,20 @@ use Rattle.sha256.specs.declared.Sha.{Sha}
 use Rattle.sha256.specs.Running.{blockOf}
 use Rattle.octets.specs.Numbers.{numberAt, word}
 use Rattle.rules.specs.declared.Monitor.{Monitor}
+use Rattle.rules.specs.declared.Step.{Step}
+use Rattle.rules.specs.Steps.{flags, encode}
 use Rattle.codecs.specs.Values.{wordsOf, stateOf, monitorOf}
 
-pub eight-words : (b : List ℕ)
+eight-words : (b : List ℕ)
     → numberAt b 0 4 ∷ numberAt b 4 4 ∷ numberAt b 8 4 ∷ numberAt b 12 4 ∷ numberAt b 16 4 ∷ numberAt b 20 4 ∷ numberAt b 24 4 ∷ numberAt b 28 4 ∷ [] ≡ wordsOf 8 b
 unfolding wordsOf
 eight-words b = cc (drop-drop 4 4 b, drop-drop 4 8 b, drop-drop 4 12 b, drop-drop 4 16 b, drop-drop 4 20 b, drop-drop 4 24 b)
+
+pub words-are : (b : List ℕ) (a₀ a₁ a₂ a₃ a₄ a₅ a₆ a₇ : ℕ) → a₀ ≡ numberAt b 0 4 → a₁ ≡ numberAt b 4 4 → a₂ ≡ numberAt b 8 4 → a₃ ≡ numberAt b 12 4
+    → a₄ ≡ numberAt b 16 4 → a₅ ≡ numberAt b 20 4 → a₆ ≡ numberAt b 24 4 → a₇ ≡ numberAt b 28 4
+    → a₀ ∷ a₁ ∷ a₂ ∷ a₃ ∷ a₄ ∷ a₅ ∷ a₆ ∷ a₇ ∷ [] ≡ wordsOf 8 b
+words-are b a₀ a₁ a₂ a₃ a₄ a₅ a₆ a₇ e₀ e₁ e₂ e₃ e₄ e₅ e₆ e₇ =
+    (λ i. e₀ i ∷ e₁ i ∷ e₂ i ∷ e₃ i ∷ e₄ i ∷ e₅ i ∷ e₆ i ∷ e₇ i ∷ []) ∙ eight-words b
 
 -- the block, of which no byte is there, or some
 pub no-block : (b : List ℕ) → length b < 32 → blockOf [] ≡ blockOf (drop 32 b)
@@ -36,3 +44,10 @@ unfolding monitorOf
 monitor-is b x y z w p q r s =
     let e : w ≡ word (getD b 1 0) (getD b 2 0) = cc in
     λ i. record { held = not (eqb (p i) 0); last = e i }
+
+-- a step's bytes, of which one is the flags
+pub step-is : (s : Step) (f : ℕ) → f ≡ flags s
+    → s .pc % 256 ∷ s .pc / 256 % 256 ∷ s .cpu % 256 ∷ s .cpu / 256 % 256 ∷ s .dma % 256 ∷ s .dma / 256 % 256 ∷ f ∷ s .cpudata ∷ s .dmadata ∷ 0 ∷ 0 ∷ 0 ∷ []
+    ≡ encode s
+unfolding encode
+step-is s f e = λ i. s .pc % 256 ∷ s .pc / 256 % 256 ∷ s .cpu % 256 ∷ s .cpu / 256 % 256 ∷ s .dma % 256 ∷ s .dma / 256 % 256 ∷ e i ∷ s .cpudata ∷ s .dmadata ∷ 0 ∷ 0 ∷ 0 ∷ []

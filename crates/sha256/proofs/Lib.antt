@@ -1,4 +1,5 @@
 pub mod Lists
+pub mod Filling
 pub mod Running
 pub mod Padding
 pub mod Answers

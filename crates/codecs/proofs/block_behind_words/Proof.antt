@@ -18,7 +18,7 @@ part-block-of-end : tie.Need-part-block-of-end
 part-block-of-end c = search needs
 
 block-of-requires : tie.Need-block-of-requires
-block-of-requires c κs = search needs
+block-of-requires c κs = tt
 
 returns-2 : tie.Need-returns-2
 returns-2 c = c .block-of .ensures ∙ some-block (c .before .before .before .before .args .bytes .now)

@@ -26,7 +26,7 @@ shared-slice-read-put-digits : tie.Need-shared-slice-read-put-digits Inv-loop μ
 shared-slice-read-put-digits c = search needs
 
 put-digits-requires : tie.Need-put-digits-requires Inv-loop μ-loop
-put-digits-requires c κs = search needs
+put-digits-requires c κs = tt
 
 add-i : tie.Need-add-i Inv-loop μ-loop
 add-i c = search needs

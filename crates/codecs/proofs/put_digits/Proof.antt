@@ -6,7 +6,7 @@ use Rattle.codecs.proofs.put_digits.Statement.{statement}
 use Rattle.codecs.proofs.put_digits.Tie as tie
 
 hex-requires : tie.Need-hex-requires
-hex-requires c κs = search needs
+hex-requires c κs = tt
 
 array-share-prefix-text : tie.Need-array-share-prefix-text
 array-share-prefix-text c = search needs
@@ -15,7 +15,7 @@ slice-aggregate-store : tie.Need-slice-aggregate-store
 slice-aggregate-store c = search needs
 
 store-requires : tie.Need-store-requires
-store-requires c κs = search needs
+store-requires c κs = tt
 
 same-length : tie.Need-same-length
 same-length c = search needs

@@ -1,11 +1,11 @@
 -- `codecs::step_bytes` meets its contract. Assumes nothing.
 use borrow.Author.Needs.{needs}
-use Rattle.rules.specs.Steps.{encode}
+use Rattle.codecs.proofs.States.{step-is}
 use Rattle.codecs.proofs.step_bytes.Statement.{statement}
 use Rattle.codecs.proofs.step_bytes.Tie as tie
 
 flags-requires : tie.Need-flags-requires
-flags-requires c κs = search needs
+flags-requires c κs = tt
 
 cast-t4 : tie.Need-cast-t4
 cast-t4 c = search needs
@@ -26,8 +26,7 @@ cast-t17 : tie.Need-cast-t17
 cast-t17 c = search needs
 
 returns : tie.Need-returns
-unfolding encode
-returns c = cc
+returns c = step-is (c .before .before .before .before .before .before .before .args .s) _ (c .before .before .before .before .before .before .flags .ensures)
 
 pub step-bytes-spec : {M : Type 1} → statement M
 step-bytes-spec =

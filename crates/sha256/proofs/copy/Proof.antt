@@ -6,7 +6,7 @@ use Rattle.sha256.proofs.copy.Statement.{statement}
 use Rattle.sha256.proofs.copy.Tie as tie
 
 store-requires : tie.Need-store-requires
-store-requires c κs = search needs
+store-requires c κs = tt
 
 same-length : tie.Need-same-length
 same-length c = search needs

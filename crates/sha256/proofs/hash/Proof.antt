@@ -2,21 +2,20 @@
 use Rattle.sha256.proofs.Answers.{gives-refused, gives-given}
 use Rattle.sha256.proofs.Laws.{within-standard}
 use borrow.Author.Tests.{lt-ltb, le-ltb}
-use borrow.Author.Needs.{needs}
 use Rattle.sha256.proofs.hash.Statement.{statement}
 use Rattle.sha256.proofs.hash.Tie as tie
 
 refused-requires : tie.Need-refused-requires
-refused-requires c κs = search needs
+refused-requires c κs = tt
 
 returns : tie.Need-returns
 returns c = gives-refused (lt-ltb _ _ (c .before .if1 .taken)) (c .refused .ensures)
 
 digest-of-requires : tie.Need-digest-of-requires
-digest-of-requires c κs = search needs
+digest-of-requires c κs = tt
 
 given-requires : tie.Need-given-requires
-given-requires c κs = search needs
+given-requires c κs = tt
 
 returns-2 : tie.Need-returns-2
 returns-2 c =

@@ -13,7 +13,7 @@ mul-be8 : tie.Need-mul-be8
 mul-be8 c = search needs
 
 be8-requires : tie.Need-be8-requires
-be8-requires c κs = search needs
+be8-requires c κs = tt
 
 slice-aggregate-copy : tie.Need-slice-aggregate-copy
 slice-aggregate-copy c = search needs

@@ -17,7 +17,7 @@ slice-aggregate-block-of : tie.Need-slice-aggregate-block-of
 slice-aggregate-block-of c = simp length-take (omega arith)
 
 block-of-requires : tie.Need-block-of-requires
-block-of-requires c κs = search needs
+block-of-requires c κs = tt
 
 put-requires : tie.Need-put-requires
 put-requires c κs = search needs

@@ -8,12 +8,12 @@ use borrow.Author.Tests.{lt-ltb, le-ltb}
 use lib.ListN.{length-take}
 use Rattle.sha256.specs.Running.{digest}
 use Rattle.sha256.proofs.Answers.{gives-refused, gives-given}
-use borrow.Author.Needs.{needs, length-unmapped}
+use borrow.Author.Needs.{length-unmapped}
 use Rattle.sha256.proofs.Sha.finish.Statement.{statement}
 use Rattle.sha256.proofs.Sha.finish.Tie as tie
 
 refused-requires : tie.Need-refused-requires
-refused-requires c κs = search needs
+refused-requires c κs = tt
 
 returns : tie.Need-returns
 returns c = gives-refused (lt-ltb _ _ (c .before .if1 .taken)) (c .refused .ensures)
@@ -37,7 +37,7 @@ last-digest-requires c κs =
     (length-filled (z .args .self) l, omega arith)
 
 given-requires : tie.Need-given-requires
-given-requires c κs = search needs
+given-requires c κs = tt
 
 returns-2 : tie.Need-returns-2
 unfolding digest

@@ -2,65 +2,66 @@
 use mathlib.Core.Path.{ap, _∙_}
 use mathlib.Core.List.{List}
 use Prim.Native.Nat.{ℕ, _+_, _-_, _%_}
-use native.Mathlib.Omega.{arith}
-use lib.ListN.{length, take, drop, length-take, length-drop}
+use native.Mathlib.Nat.{le-refl}
+use lib.ListN.{length, take, drop}
 use lib.Seq.{take-all}
 use Rattle.sha256_block.specs.Block.{whole}
 use Rattle.sha256.proofs.Running.{taken-long}
+use Rattle.sha256.proofs.Filling.{filled-few, free-there, free-taken, free-fits, filled-fits, total-fits, left-there, less, behind}
 use borrow.Author.Needs.{needs, length-unmapped}
 use Rattle.sha256.proofs.Sha.long.Statement.{statement}
 use Rattle.sha256.proofs.Sha.long.Tie as tie
 
 sub-put : tie.Need-sub-put
-sub-put c = search needs
+sub-put c = filled-few (c .before .before .before .args .self .total)
 
 slice-aggregate-put : tie.Need-slice-aggregate-put
-slice-aggregate-put c = simp length-take (omega arith)
+slice-aggregate-put c = free-taken (c .before .before .before .before .args .self .total) (c .before .before .before .before .args .x .now) (c .before .before .before .before .pre .1)
 
 put-requires : tie.Need-put-requires
-put-requires c κs = simp length-take (omega arith)
+put-requires c κs = free-fits (c .before .before .before .before .args .self .total) (c .before .before .before .before .args .x .now)
 
 slice-aggregate-blocks : tie.Need-slice-aggregate-blocks
 slice-aggregate-blocks c = search needs
 
 blocks-requires : tie.Need-blocks-requires
-blocks-requires c κs = search needs
+blocks-requires c κs = tt
 
 sub-blocks : tie.Need-sub-blocks
-sub-blocks c = search needs
+sub-blocks c = filled-few (c .before .before .before .before .before .before .before .before .args .self .total)
 
 sub-blocks-2 : tie.Need-sub-blocks-2
-sub-blocks-2 c = search needs
+sub-blocks-2 c = free-there (c .before .before .before .before .before .before .before .before .args .self .total) (length (c .before .before .before .before .before .before .before .before .args .x .now)) (c .before .before .before .before .before .before .before .before .pre .1)
 
 part-blocks-start : tie.Need-part-blocks-start
-part-blocks-start c = search needs
+part-blocks-start c = free-there (c .before .before .before .before .before .before .before .before .args .self .total) (length (c .before .before .before .before .before .before .before .before .args .x .now)) (c .before .before .before .before .before .before .before .before .pre .1)
 
 part-blocks-end : tie.Need-part-blocks-end
-part-blocks-end c = search needs
+part-blocks-end c = le-refl _
 
 blocks-requires-2 : tie.Need-blocks-requires-2
-blocks-requires-2 c κs = search needs
+blocks-requires-2 c κs = tt
 
 add-block-of : tie.Need-add-block-of
-add-block-of c = search needs
+add-block-of c = record { fits = filled-fits (c .before .before .before .before .before .before .before .before .before .before .args .self .total) (length (c .before .before .before .before .before .before .before .before .before .before .args .x .now)) (c .before .before .before .before .before .before .before .before .before .before .pre .0) }
 
 sub-block-of : tie.Need-sub-block-of
-sub-block-of c = search needs
+sub-block-of c = left-there (c .before .before .before .before .before .before .before .before .before .before .args .self .total) (length (c .before .before .before .before .before .before .before .before .before .before .args .x .now)) (c .before .before .before .before .before .before .before .before .before .before .pre .1)
 
 sub-block-of-2 : tie.Need-sub-block-of-2
-sub-block-of-2 c = search needs
+sub-block-of-2 c = less (length (c .before .before .before .before .before .before .before .before .before .before .args .x .now)) _
 
 part-block-of-start : tie.Need-part-block-of-start
-part-block-of-start c = search needs
+part-block-of-start c = less (length (c .before .before .before .before .before .before .before .before .before .before .args .x .now)) _
 
 part-block-of-end : tie.Need-part-block-of-end
-part-block-of-end c = search needs
+part-block-of-end c = le-refl _
 
 block-of-requires : tie.Need-block-of-requires
-block-of-requires c κs = search needs
+block-of-requires c κs = tt
 
 add-self : tie.Need-add-self
-add-self c = search needs
+add-self c = record { fits = total-fits (c .before .before .before .before .before .before .before .before .before .before .before .before .before .args .self .total) (length (c .before .before .before .before .before .before .before .before .before .before .before .before .before .args .x .now)) (c .before .before .before .before .before .before .before .before .before .before .before .before .before .pre .0) }
 
 returns : tie.Need-returns
 returns c =
@@ -76,9 +77,9 @@ returns c =
     taken-long (z .self) (length-unmapped ℕ (z .self .block) 64 (z₀ .good .0 .1 .1 .1 .0 .1 .0 .1)) x (f .put .result) (w .blocks3 .result) (b .block-of .result) (take (length x - o) (drop o x)) (take (length x - k) (drop k x))
     (z₀ .pre .1)
     (f .put .ensures)
-    (take-all (length x - o) (drop o x) (rw length-drop (omega arith)))
+    (take-all (length x - o) (drop o x) (behind x o))
     (w .blocks3 .ensures ∙ ap (λ (u : List ℕ). whole u (take (length x - o) (drop o x))) (v .blocks2 .ensures))
-    (take-all (length x - k) (drop k x) (rw length-drop (omega arith)))
+    (take-all (length x - k) (drop k x) (behind x k))
     (b .block-of .ensures)
 
 pub long-spec : {M : Type 1} → statement M

@@ -4,12 +4,11 @@ use mathlib.Core.List.{List}
 use Prim.Native.Nat.{ℕ}
 use lib.ListN.{replicate}
 use Rattle.sha256.specs.Running.{started}
-use borrow.Author.Needs.{needs}
 use Rattle.sha256.proofs.Sha.start.Statement.{statement}
 use Rattle.sha256.proofs.Sha.start.Tie as tie
 
 initial-requires : tie.Need-initial-requires
-initial-requires c κs = search needs
+initial-requires c κs = tt
 
 returns : tie.Need-returns
 unfolding started

@@ -6,15 +6,14 @@ use borrow.Author.Tests.{ltb-false}
 use lib.ListN.{length}
 use Rattle.sha256.specs.Promises.{limit}
 use Rattle.sha256.proofs.Answers.{takes-in-refused, takes-in-done}
-use borrow.Author.Needs.{needs}
 use Rattle.sha256.proofs.Sha.take_in.Statement.{statement}
 use Rattle.sha256.proofs.Sha.take_in.Tie as tie
 
 over-requires : tie.Need-over-requires
-over-requires c κs = search needs
+over-requires c κs = tt
 
 refused-requires : tie.Need-refused-requires
-refused-requires c κs = search needs
+refused-requires c κs = tt
 
 returns : tie.Need-returns
 returns c =

@@ -27,7 +27,7 @@ array-read-be4 : tie.Need-array-read-be4 Inv-loop μ-loop
 array-read-be4 c = search needs
 
 be4-requires : tie.Need-be4-requires Inv-loop μ-loop
-be4-requires c κs = search needs
+be4-requires c κs = tt
 
 array-read-d : tie.Need-array-read-d Inv-loop μ-loop
 array-read-d c = search needs

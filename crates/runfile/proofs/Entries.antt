@@ -7,7 +7,7 @@ use Prim.Native.Nat.{ℕ, _+_, _-_, _≤_, _<_}
 use native.Mathlib.Numerals.{add-one}
 use native.Mathlib.Omega.{arith}
 use lib.Dec.{eqb, ltb}
-use lib.ListN.{length, take, drop}
+use lib.ListN.{length, take, drop, length-take, length-drop}
 use borrow.Author.Tests.{ltb-true, ltb-false, lt-ltb, le-ltb, eqb-true, not-false}
 use Rattle.refusal.specs.First.{first}
 use Rattle.refusal.specs.Numbers.{contents}
@@ -126,8 +126,18 @@ pub layout-part : (f : List ℕ) → Sound f → take (48 - contentsSize) (drop 
 unfolding body begins
 layout-part f s = sym (ap (λ (k : ℕ). take k (drop contentsSize f)) (s .layout))
 
+-- the layout ends in the file
+pub layout-within : (f : List ℕ) → Sound f → 48 ≤ length f
+layout-within f s = omega (arith, s .whole)
+
 -- entry 1 names n bytes
 module _ (f : List ℕ) (s : Sound f) (n : ℕ) (is : n ≡ size f MEMORY) where
+  pub memory-within : 48 + n ≤ length f
+  memory-within = omega (arith, s .whole)
+
+  pub memory-most : length (take (48 + n - 48) (drop 48 f)) ≤ mostBytes
+  memory-most = simp (length-take, length-drop) (omega (arith, s .most))
+
   pub memory-part : take (48 + n - 48) (drop 48 f) ≡ body f MEMORY
   unfolding body
   memory-part =

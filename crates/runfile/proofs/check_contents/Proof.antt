@@ -7,7 +7,7 @@ use Rattle.runfile.proofs.check_contents.Statement.{statement}
 use Rattle.runfile.proofs.check_contents.Tie as tie
 
 refused-requires : tie.Need-refused-requires
-refused-requires c κs = search needs
+refused-requires c κs = tt
 
 returns : tie.Need-returns
 unfolding fileCheck

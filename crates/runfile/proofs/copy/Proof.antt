@@ -19,7 +19,7 @@ part-store-end : tie.Need-part-store-end
 part-store-end c = search needs
 
 store-requires : tie.Need-store-requires
-store-requires c κs = search needs
+store-requires c κs = tt
 
 same-length : tie.Need-same-length
 same-length c = search needs

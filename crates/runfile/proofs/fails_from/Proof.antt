@@ -7,7 +7,7 @@ mul-long-at : tie.Need-mul-long-at
 mul-long-at c = search needs
 
 long-at-requires : tie.Need-long-at-requires
-long-at-requires c κs = search needs
+long-at-requires c κs = tt
 
 mul-long-at-2 : tie.Need-mul-long-at-2
 mul-long-at-2 c = search needs
@@ -16,7 +16,7 @@ add-long-at : tie.Need-add-long-at
 add-long-at c = search needs
 
 long-at-requires-2 : tie.Need-long-at-requires-2
-long-at-requires-2 c κs = search needs
+long-at-requires-2 c κs = tt
 
 add-end : tie.Need-add-end
 add-end c = search needs

@@ -1,5 +1,4 @@
 -- `runfile::first_failing` meets its contract. Assumes nothing.
-use borrow.Author.Needs.{needs}
 use Prim.Native.Nat.{_-_}
 use mathlib.Core.Path.{sym, _∙_}
 use native.Mathlib.Omega.{arith}
@@ -35,7 +34,7 @@ add-long-at : tie.Need-add-long-at Inv-loop μ-loop
 add-long-at c = omega arith
 
 long-at-requires : tie.Need-long-at-requires Inv-loop μ-loop
-long-at-requires c κs = search needs
+long-at-requires c κs = tt
 
 add-begin : tie.Need-add-begin Inv-loop μ-loop
 add-begin c = omega arith

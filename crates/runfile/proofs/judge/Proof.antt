@@ -1,20 +1,18 @@
 -- `runfile::judge` meets its contract. Assumes nothing.
 use borrow.Author.Needs.{needs}
-use native.Mathlib.Omega.{arith}
-use lib.ListN.{length-take, length-drop}
-use Rattle.runfile.proofs.Entries.{layout-part, memory-part, trace-part}
+use Rattle.runfile.proofs.Entries.{layout-within, memory-within, memory-most, layout-part, memory-part, trace-part}
 use Rattle.runfile.proofs.Files.{checked, passed, judged, refused}
 use Rattle.runfile.proofs.judge.Statement.{statement}
 use Rattle.runfile.proofs.judge.Tie as tie
 
 check-contents-requires : tie.Need-check-contents-requires
-check-contents-requires c κs = search needs
+check-contents-requires c κs = tt
 
 enum-told : tie.Need-enum-told
 enum-told c = search needs
 
 long-at-requires : tie.Need-long-at-requires
-long-at-requires c κs = search needs
+long-at-requires c κs = tt
 
 add-e : tie.Need-add-e
 add-e c = search needs
@@ -28,7 +26,7 @@ part-judge-bodies-start c = search needs
 part-judge-bodies-end : tie.Need-part-judge-bodies-end
 part-judge-bodies-end c =
     let h = c .before .before .before .before .before .before .before .args in
-    omega (arith, passed (h .file .now) _ (c .before .before .before .check-contents .ensures) (c .before .enum-told .given .1))
+    layout-within (h .file .now) (passed (h .file .now) _ (c .before .before .before .check-contents .ensures) (c .before .enum-told .given .1))
 
 sub-judge-bodies-2 : tie.Need-sub-judge-bodies-2
 sub-judge-bodies-2 c = search needs
@@ -39,17 +37,17 @@ part-judge-bodies-start-2 c = search needs
 part-judge-bodies-end-2 : tie.Need-part-judge-bodies-end-2
 part-judge-bodies-end-2 c =
     let h = c .before .before .before .before .before .before .before .before .args in
-    omega (arith, passed (h .file .now) _ (c .before .before .before .before .check-contents .ensures) (c .before .before .enum-told .given .1), c .before .long-at .ensures .0)
+    memory-within (h .file .now) (passed (h .file .now) _ (c .before .before .before .before .check-contents .ensures) (c .before .before .enum-told .given .1)) _ (c .before .long-at .ensures .0)
 
 sub-judge-bodies-3 : tie.Need-sub-judge-bodies-3
 sub-judge-bodies-3 c =
     let h = c .before .before .before .before .before .before .before .before .before .args in
-    omega (arith, passed (h .file .now) _ (c .before .before .before .before .before .check-contents .ensures) (c .before .before .before .enum-told .given .1), c .before .before .long-at .ensures .0)
+    memory-within (h .file .now) (passed (h .file .now) _ (c .before .before .before .before .before .check-contents .ensures) (c .before .before .before .enum-told .given .1)) _ (c .before .before .long-at .ensures .0)
 
 part-judge-bodies-start-3 : tie.Need-part-judge-bodies-start-3
 part-judge-bodies-start-3 c =
     let h = c .before .before .before .before .before .before .before .before .before .args in
-    omega (arith, passed (h .file .now) _ (c .before .before .before .before .before .check-contents .ensures) (c .before .before .before .enum-told .given .1), c .before .before .long-at .ensures .0)
+    memory-within (h .file .now) (passed (h .file .now) _ (c .before .before .before .before .before .check-contents .ensures) (c .before .before .before .enum-told .given .1)) _ (c .before .before .long-at .ensures .0)
 
 part-judge-bodies-end-3 : tie.Need-part-judge-bodies-end-3
 part-judge-bodies-end-3 c = search needs
@@ -57,7 +55,7 @@ part-judge-bodies-end-3 c = search needs
 judge-bodies-requires : tie.Need-judge-bodies-requires
 judge-bodies-requires c κs =
     let h = c .before .before .before .before .before .before .before .before .before .before .before .before .args in
-    simp (length-take, length-drop) (omega (arith, passed (h .file .now) _ (c .before .before .before .before .before .before .before .before .check-contents .ensures) (c .before .before .before .before .before .before .enum-told .given .1)))
+    memory-most (h .file .now) (passed (h .file .now) _ (c .before .before .before .before .before .before .before .before .check-contents .ensures) (c .before .before .before .before .before .before .enum-told .given .1)) _ (c .before .before .before .before .before .long-at .ensures .0)
 
 enum-known-r : tie.Need-enum-known-r
 enum-known-r c = search needs

@@ -10,7 +10,7 @@ check-bodies-requires : tie.Need-check-bodies-requires
 check-bodies-requires c κs = search needs
 
 admit-requires : tie.Need-admit-requires
-admit-requires c κs = search needs
+admit-requires c κs = tt
 
 enum-known-l : tie.Need-enum-known-l
 enum-known-l c = search needs
@@ -23,7 +23,7 @@ fill-requires c κs =
     (p .long, z .pre, wrong-none (h .body .now) (p .segmented))
 
 run-with-requires : tie.Need-run-with-requires
-run-with-requires c κs = search needs
+run-with-requires c κs = tt
 
 enum-known-r : tie.Need-enum-known-r
 enum-known-r c = search needs

@@ -26,17 +26,6 @@ then {a} {b} {c} {i} {j} {k} {s} {t} v w =
 pub nothing : (a : List ℕ) (i : ℕ) → Wrote a a i [] i
 nothing a i = record { next = omega arith; laid = refl }
 
--- the places of a line stay small
-pub line-small : (at p q r s t u : ℕ) → at ≤ 800000 → p ≤ at + 20 → q ≡ p + 1 → r ≤ q + 20 → s ≡ r + 1 → t ≤ s + 2 → u ≡ t + 1
-    → u ≤ 800045
-line-small at p q r s t u h ep eq er es et eu = omega arith
-
-pub line-end-small : (u v : ℕ) → u ≤ 800045 → v ≤ u + 2 → v ≤ 1000000
-line-end-small u v h e = omega arith
-
-pub small-enough : (u : ℕ) → u ≤ 800045 → u ≤ 900000
-small-enough u h = omega arith
-
 -- one byte, which is not stored past the end
 pub stored : (out : List ℕ) (at b : ℕ) → Wrote out (set out at b) at (b ∷ []) (at + 1)
 stored out at b = record { next = refl; laid = refl }

@@ -3,7 +3,7 @@ use borrow.Author.Needs.{needs}
 use mathlib.Core.Path.{_∙_}
 use native.Mathlib.Omega.{arith}
 use Rattle.report.specs.Text.{line}
-use Rattle.report.proofs.Lay.{then, line-small, line-end-small, small-enough}
+use Rattle.report.proofs.Lay.{then}
 use Rattle.report.proofs.Decimal.{decimal-most}
 use Rattle.report.proofs.put_line.Statement.{statement}
 use Rattle.report.proofs.put_line.Tie as tie
@@ -45,7 +45,7 @@ put-shown-requires-2 c κs =
     let p = c₆ .put-decimal .ensures .1 in
     let c₇ = c₆ .before .before .before .before .before in
     let h = c₇ .pre in
-    small-enough _ (line-small _ _ _ _ _ _ _ (h .0) p q r s t u)
+    omega (arith, h, p, q, r, s, t, u)
 
 put-byte-requires-4 : tie.Need-put-byte-requires-4
 put-byte-requires-4 c κs =
@@ -65,7 +65,7 @@ put-byte-requires-4 c κs =
     let p = c₇ .put-decimal .ensures .1 in
     let c₈ = c₇ .before .before .before .before .before in
     let h = c₈ .pre in
-    line-end-small _ _ (line-small _ _ _ _ _ _ _ (h .0) p q r s t u) v
+    omega (arith, h, p, q, r, s, t, u, v)
 
 same-length : tie.Need-same-length
 same-length c =

@@ -7,12 +7,12 @@ use Prim.Native.Nat.{ℕ, _+_, _≤_}
 use native.Mathlib.Omega.{arith}
 use lib.ListN.{length, getD, length-take, length-drop}
 use lib.Seq.{sets, length-sets}
-use Rattle.refusal.specs.Bytes.{Bytes}
+use Rattle.notions.specs.Bytes.{Bytes}
 use Rattle.refusal.specs.Settled.{row-settled}
 use Rattle.refusal.specs.declared.Refusal.{Refusal}
 use Rattle.refusal.specs.declared.Answer.the-variants.{Done, Refused}
-use Rattle.refusal.proofs.Bytes.{bytes-sets}
-use Rattle.refusal.proofs.Tests.{neither}
+use Rattle.notions.proofs.Bytes.{bytes-sets}
+use Rattle.notions.proofs.Tests.{neither}
 use Rattle.refusal.proofs.Order.{Refuses}
 use Rattle.layout.specs.declared.Region.{Region}
 use Rattle.layout.specs.declared.Layout.{Layout}

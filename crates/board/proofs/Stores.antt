@@ -7,8 +7,8 @@ use native.Mathlib.Nat.{add-zero, not-suc-le-zero, le-of-suc-le-suc}
 use native.Mathlib.Omega.{arith}
 use lib.ListN.{length, getD, take, drop, set, length-take, length-drop}
 use lib.Seq.{sets, length-sets, sets-eq, getD-set-other, length-take-le, take-at, drop-at, getD-take, getD-drop, ext-getD}
-use Rattle.refusal.specs.Bytes.{Bytes}
-use Rattle.refusal.proofs.Bytes.{bytes-take, bytes-drop}
+use Rattle.notions.specs.Bytes.{Bytes}
+use Rattle.notions.proofs.Bytes.{bytes-take, bytes-drop}
 use Rattle.board.specs.Memory.{bytesAt}
 
 -- ---- what is read

@@ -8,14 +8,14 @@ use borrow.Author.Tests.{ltb-true, eqb-true}
 use lib.Dec.{eqb, ltb}
 use lib.ListN.{length, getD, take, drop, replicate, length-append, length-drop, drop-of-length-le}
 use lib.Seq.{drop-cons, take-add, take-all}
-use Rattle.refusal.specs.Bytes.{Bytes}
-use Rattle.refusal.proofs.Bytes.{bytes-drop}
-use Rattle.refusal.proofs.Tests.{both}
-use Rattle.refusal.specs.Choice.{pick}
+use Rattle.notions.specs.Bytes.{Bytes}
+use Rattle.notions.proofs.Bytes.{bytes-drop}
+use Rattle.notions.proofs.Tests.{both}
+use Rattle.notions.specs.Choice.{pick}
 use Rattle.sha256.specs.Running.{blockOf}
 use Rattle.octets.specs.Numbers.{number, little}
 use Rattle.octets.proofs.Laws.{part-back, word-back}
-use Rattle.rules.specs.Steps.{bit, stepOf, encode}
+use Rattle.steps.specs.Steps.{bit, stepOf, encode}
 use Rattle.codecs.specs.Values.{wordsOf, wordsBytes, stateOf, stateBytes}
 use Rattle.codecs.specs.Promises.{WritesHex}
 use Rattle.codecs.specs.Back.{StateBack, StepBack}

@@ -11,8 +11,8 @@ use Rattle.sha256.specs.declared.Sha.{Sha}
 use Rattle.sha256.specs.Running.{blockOf}
 use Rattle.octets.specs.Numbers.{numberAt, word}
 use Rattle.rules.specs.declared.Monitor.{Monitor}
-use Rattle.rules.specs.declared.Step.{Step}
-use Rattle.rules.specs.Steps.{flags, encode}
+use Rattle.steps.specs.declared.Step.{Step}
+use Rattle.steps.specs.Steps.{flags, encode}
 use Rattle.codecs.specs.Values.{wordsOf, stateOf, monitorOf}
 
 eight-words : (b : List ℕ)

@@ -4,8 +4,8 @@ use mathlib.Core.Bool.{true}
 use mathlib.Core.List.{List}
 use Prim.Native.Nat.{ℕ}
 use lib.ListN.{length}
-use Rattle.refusal.specs.Bytes.{Bytes}
-use Rattle.rules.specs.Steps.{stepOf, clean, encode}
+use Rattle.notions.specs.Bytes.{Bytes}
+use Rattle.steps.specs.Steps.{stepOf, clean, encode}
 use Rattle.codecs.specs.Values.{stateOf, stateBytes}
 
 -- 104 bytes are those of their state

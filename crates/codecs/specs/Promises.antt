@@ -5,8 +5,8 @@ use Prim.Native.Nat.{ℕ}
 use lib.ListN.{length, take, drop}
 use Rattle.sha256.specs.declared.Sha.{Sha}
 use Rattle.rules.specs.declared.Monitor.{Monitor}
-use Rattle.rules.specs.declared.Step.{Step}
-use Rattle.rules.specs.Steps.{encode}
+use Rattle.steps.specs.declared.Step.{Step}
+use Rattle.steps.specs.Steps.{encode}
 use Rattle.codecs.specs.Digits.{hexText}
 use Rattle.codecs.specs.Values.{stateOf, stateBytes, monitorOf}
 

@@ -1,16 +1,16 @@
 // Values as bytes, and bytes as digits, as the program `calls` takes and prints them. Numbers have their lightest byte first.
 use rules::Monitor;
-use rules::Step;
+use steps::Step;
 use sha256::Sha;
 ghost use mathlib.Core.Path.{_≡_};
 ghost use Prim.Native.Nat.{_+_, _≤_, _<_};
 ghost use lib.ListN.{length, getD, drop};
 ghost use lib.Seq.{sets};
 ghost use Rattle.io.specs.Digits as D;
-ghost use Rattle.refusal.specs.Choice as C;
+ghost use Rattle.notions.specs.Choice as C;
 ghost use Rattle.octets.specs.Numbers as N;
 ghost use Rattle.sha256.specs.Running as R;
-ghost use Rattle.rules.specs.Steps as T;
+ghost use Rattle.steps.specs.Steps as T;
 ghost use Rattle.codecs.specs.Values as S;
 ghost use Rattle.codecs.specs.Promises as P;
 

@@ -9,23 +9,26 @@ use lib.Dec.{eqb, ltb}
 use lib.ListN.{length, getD, take, drop}
 use lib.Seq.{getD-take, getD-drop}
 use borrow.Author.Tests.{ltb-true}
-use Rattle.refusal.specs.Choice.{pick}
-use Rattle.refusal.specs.First.{first}
+use Rattle.notions.specs.Choice.{pick}
+use Rattle.notions.specs.First.{first}
 use Rattle.refusal.specs.declared.Answer.the-variants.{Done}
-use Rattle.refusal.proofs.Tests.{cases}
-use Rattle.refusal.proofs.First.{first-found, first-least, none-found}
+use Rattle.notions.proofs.Tests.{cases}
+use Rattle.notions.proofs.First.{first-found, first-least, none-found}
 use Rattle.layout.specs.declared.Layout.{Layout}
 use Rattle.layout.specs.Layouts.{layoutOf}
 use Rattle.layout.specs.Calls.{callCheck}
-use Rattle.rules.specs.declared.Step.{Step}
+use Rattle.steps.specs.declared.Step.{Step}
 use Rattle.rules.specs.declared.Monitor.{Monitor}
-use Rattle.rules.specs.Rules.{rule15, broken, numbered, cause, next}
+use Rattle.rules.specs.Rules.{rule15, broken, numbered, cause}
+use Rattle.monitor.specs.Decisions.{next}
 use Rattle.rules.proofs.Laws.{held-away, quiet-passes, cause-lowest}
 use Rattle.monitor.specs.declared.Totals.{Totals}
 use Rattle.monitor.specs.declared.Traced.the-variants as traced
 use Rattle.effects.specs.Effects.{answer, bytes}
-use Rattle.monitor.specs.Runs.{answerSize, count, steps, begin, before, resetting, roomAfter, totals}
-use Rattle.monitor.specs.Promises.{traceCheck, stepCheck, Traces}
+use Rattle.traces.specs.Traces.{answerSize, count, steps}
+use Rattle.monitor.specs.Runs.{begin, before, resetting, roomAfter, totals}
+use Rattle.traces.specs.Traces.{traceCheck, stepCheck}
+use Rattle.monitor.specs.Promises.{Traces}
 use Rattle.effects.proofs.Laws.{answer-cause}
 use Rattle.monitor.proofs.Laws.{answer-at}
 use Rattle.monitor.proofs.Checks.{traced-judged, stepped-judged}

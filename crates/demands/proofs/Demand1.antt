@@ -9,8 +9,8 @@ use lib.Dec.{leb, ltb, eqb}
 use lib.ListN.{length, getD}
 use denote.Ref.{now}
 use borrow.Author.Tests.{not-true, not-false}
-use Rattle.refusal.specs.Choice.{pick}
-use Rattle.refusal.specs.First.{first}
+use Rattle.notions.specs.Choice.{pick}
+use Rattle.notions.specs.First.{first}
 use Rattle.refusal.specs.Settled.{row-settled}
 use Rattle.refusal.specs.Answers as A
 use Rattle.refusal.specs.Answers.{refusedIf, refusedAt, told}
@@ -18,7 +18,7 @@ use Rattle.refusal.specs.Numbers.{traceSize, stepNotZero}
 use Rattle.refusal.specs.declared.Refusal.{Refusal}
 use Rattle.refusal.specs.declared.Answer.{Answer}
 use Rattle.refusal.specs.declared.Answer.the-variants as call
-use Rattle.refusal.proofs.Tests.{clash}
+use Rattle.notions.proofs.Tests.{clash}
 use Rattle.layout.specs.declared.Region.{Region}
 use Rattle.layout.specs.Regions.{within, reversed, size, shares}
 use Rattle.layout.specs.Layouts.{CR, KR, MR, CTR, AR, region, layoutOf, wrongSize, collide, firstCollision, layoutCheck}
@@ -28,16 +28,18 @@ use Rattle.layout.specs.Promises as layouts
 use Rattle.layout.specs.Settled as settled
 use Rattle.layout.specs.Calls.{callCheck}
 use Rattle.layout.proofs.Laws.{within-ends, ends-within, shares-exactly}
-use Rattle.rules.specs.declared.Step.{Step}
-use Rattle.rules.specs.Rules.{next}
+use Rattle.steps.specs.declared.Step.{Step}
+use Rattle.monitor.specs.Decisions.{next}
 use Rattle.monitor.specs.declared.Stepped.{Stepped}
 use Rattle.monitor.specs.declared.Stepped.the-variants as stepped
 use Rattle.monitor.specs.declared.Traced.{Traced}
 use Rattle.monitor.specs.declared.Traced.the-variants as traced
 use Rattle.monitor.specs.Settled.{traced-row-settled, stepped-row-settled}
-use Rattle.monitor.specs.Runs.{count, steps, totals}
-use Rattle.monitor.specs.Promises.{misfits, unclean, traceCheck, stepCheck, totalsValues, tracedRow, remembered, steppedRow}
-use Rattle.monitor.proofs.Laws.{step-byte}
+use Rattle.traces.specs.Traces.{count, steps}
+use Rattle.monitor.specs.Runs.{totals}
+use Rattle.traces.specs.Traces.{misfits, unclean, traceCheck, stepCheck}
+use Rattle.monitor.specs.Promises.{totalsValues, tracedRow, remembered, steppedRow}
+use Rattle.traces.proofs.Laws.{step-byte}
 use Rattle.reader.specs.declared.Read.{Read}
 use Rattle.reader.specs.declared.Read.the-variants as read
 use Rattle.reader.specs.Reading as reads

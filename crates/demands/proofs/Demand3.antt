@@ -6,11 +6,12 @@ use Prim.Native.Nat.{ℕ, zero, suc, _<_}
 use native.Mathlib.Omega.{arith}
 use lib.Dec.{eqb}
 use borrow.Author.Tests.{eqb-true, not-false}
-use Rattle.refusal.specs.Choice.{pick}
+use Rattle.notions.specs.Choice.{pick}
 use Rattle.layout.specs.declared.Layout.{Layout}
-use Rattle.rules.specs.declared.Step.{Step}
+use Rattle.steps.specs.declared.Step.{Step}
 use Rattle.rules.specs.declared.Monitor.{Monitor}
-use Rattle.rules.specs.Rules.{cause, resets, start, next}
+use Rattle.rules.specs.Rules.{cause, start}
+use Rattle.monitor.specs.Decisions.{resets, next}
 use Rattle.effects.specs.Effects.{cpuExposed, dmaExposed, exposing, answer, stored, storing, written}
 use Rattle.monitor.specs.Runs.{State, before, said, answers, resetting}
 use Rattle.demands.specs.Demand3.{Agree, scratch, with, blank, SameSteps, Unseen, Demand3Runs, FromAny}

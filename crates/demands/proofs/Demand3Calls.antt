@@ -6,20 +6,21 @@ use Prim.Native.Nat.{ℕ, _+_, _*_, _/_, _%_, _<_}
 use native.Mathlib.Omega.{arith}
 use lib.Dec.{eqb}
 use lib.ListN.{length, getD}
-use Rattle.refusal.specs.Choice.{pick}
+use Rattle.notions.specs.Choice.{pick}
 use Rattle.refusal.specs.Answers.{told}
 use Rattle.refusal.specs.declared.Answer.{Answer}
-use Rattle.refusal.proofs.First.{first-same}
-use Rattle.refusal.proofs.Tests.{cases}
+use Rattle.notions.proofs.First.{first-same}
+use Rattle.notions.proofs.Tests.{cases}
 use Rattle.layout.specs.declared.Layout.{Layout}
 use Rattle.layout.specs.Layouts.{layoutOf}
 use Rattle.layout.specs.Calls.{callCheck}
-use Rattle.rules.specs.Steps.{stepOf, clean}
+use Rattle.steps.specs.Steps.{stepOf, clean}
 use Rattle.effects.specs.Effects.{written}
-use Rattle.monitor.specs.Runs.{stepSize, count, stepBytes, steps, begin, before, memoryAfter}
-use Rattle.monitor.specs.Promises.{unclean, traceCheck, stepCheck}
+use Rattle.traces.specs.Traces.{stepSize, count, stepBytes, steps}
+use Rattle.monitor.specs.Runs.{begin, before, memoryAfter}
+use Rattle.traces.specs.Traces.{unclean, traceCheck, stepCheck}
 use Rattle.monitor.specs.Settled.{traced-row-settled, stepped-row-settled}
-use Rattle.monitor.proofs.Laws.{step-byte}
+use Rattle.traces.proofs.Laws.{step-byte}
 use Rattle.demands.specs.Demand3.{Agree, scratch, with, blank, cpuData, SameTrace, EitherTells, Demand3Calls, Demand3Steps}
 use Rattle.demands.proofs.Conditions.{lent-either}
 use Rattle.demands.proofs.Demand3.{next-same, written-agree, answer-unseen, demand-3-runs}

@@ -7,8 +7,8 @@ use native.Mathlib.Omega.{arith}
 use lib.Dec.{ltb}
 use lib.ListN.{length, getD, List·getD-eq-default}
 use borrow.Author.Tests.{not-true, ltb-true, ltb-false}
-use Rattle.refusal.specs.First.{first}
-use Rattle.refusal.proofs.Tests.{cases}
+use Rattle.notions.specs.First.{first}
+use Rattle.notions.proofs.Tests.{cases}
 use Rattle.layout.specs.declared.Layout.{Layout}
 use Rattle.layout.specs.Regions.{within, outside}
 use Rattle.rules.specs.Rules.{cause, start}

@@ -8,12 +8,12 @@ use native.Mathlib.Omega.{arith}
 use lib.Dec.{ltb, eqb}
 use lib.ListN.{length, length-take, length-drop}
 use borrow.Author.Tests.{ltb-true, ltb-false, eq-eqb}
-use Rattle.refusal.specs.Choice.{pick}
+use Rattle.notions.specs.Choice.{pick}
 use Rattle.refusal.specs.Answers.{refusedAt, andThen, told, lent}
 use Rattle.refusal.specs.Numbers.{memorySize, layoutSize, regionReversed, regionSize, zeroInCode, regionsShare, traceSize, roomSize, stepNotZero, contents, segment, fileSize}
 use Rattle.refusal.specs.declared.Answer.{Answer}
 use Rattle.refusal.specs.declared.Answer.the-variants as call
-use Rattle.refusal.proofs.Tests.{cases}
+use Rattle.notions.proofs.Tests.{cases}
 use Rattle.refusal.proofs.Order.{Refuses, refuses-none, refuses-test, refuses-untested, refuses-after, refuses-then}
 use Rattle.layout.specs.Regions.{within}
 use Rattle.layout.specs.Layouts.{CR, region, layoutOf, firstReversed, firstWrongSize, firstCollision, layoutCheck}
@@ -22,8 +22,10 @@ use Rattle.layout.proofs.Calls.{call-rest}
 use Rattle.monitor.specs.declared.Totals.{Totals}
 use Rattle.monitor.specs.declared.Traced.{Traced}
 use Rattle.monitor.specs.declared.Traced.the-variants.{Judged}
-use Rattle.monitor.specs.Runs.{stepSize, answerSize, count, steps, begin, said, resetting, roomAfter, totals}
-use Rattle.monitor.specs.Promises.{mostSteps, firstUnclean, traceCheck, totalsValues, tracedRow, Traces}
+use Rattle.traces.specs.Traces.{stepSize, answerSize, count, steps}
+use Rattle.monitor.specs.Runs.{begin, said, resetting, roomAfter, totals}
+use Rattle.traces.specs.Traces.{mostSteps, firstUnclean, traceCheck}
+use Rattle.monitor.specs.Promises.{totalsValues, tracedRow, Traces}
 use Rattle.monitor.specs.Settled.{traced-row-settled}
 use Rattle.monitor.proofs.Checks.{traced-judged, traced-refused}
 use Rattle.runfile.specs.Contents.{LAYOUT, MEMORY, TRACE, mostBytes, entries, firstFailing, fileCheck, body}

@@ -8,21 +8,22 @@ use native.Mathlib.Omega.{arith}
 use lib.Dec.{eqb, ltb}
 use lib.ListN.{length}
 use borrow.Author.Tests.{eqb-true, eqb-false, ltb-true, ltb-false}
-use Rattle.refusal.specs.Bytes.{Bytes}
+use Rattle.notions.specs.Bytes.{Bytes}
 use Rattle.refusal.specs.Answers.{lent}
 use Rattle.refusal.specs.Settled.{row-settled}
 use Rattle.refusal.specs.declared.Answer.{Answer}
 use Rattle.refusal.specs.declared.Answer.the-variants.{Done, Refused}
-use Rattle.refusal.proofs.Tests.{cases, clash, untrue}
+use Rattle.notions.proofs.Tests.{cases, clash, untrue}
 use Rattle.layout.specs.declared.Layout.{Layout}
 use Rattle.layout.specs.Regions.{within}
 use Rattle.layout.specs.Layouts.{layoutOf}
 use Rattle.layout.specs.Calls.{memoryBytes, callCheck}
 use Rattle.layout.specs.Good.{Good}
-use Rattle.rules.specs.declared.Step.{Step}
+use Rattle.steps.specs.declared.Step.{Step}
 use Rattle.effects.specs.Effects.{written}
-use Rattle.monitor.specs.Runs.{State, count, steps, begin, before, memoryAfter}
-use Rattle.monitor.specs.Promises.{traceCheck, stepCheck}
+use Rattle.monitor.specs.Runs.{State, begin, before, memoryAfter}
+use Rattle.traces.specs.Traces.{count, steps}
+use Rattle.traces.specs.Traces.{traceCheck, stepCheck}
 use Rattle.routine.specs.Strings.{greater}
 use Rattle.routine.specs.Routine.{token}
 use Rattle.routine.proofs.Order.{greater-irreflexive, greater-trans, weight-greater}

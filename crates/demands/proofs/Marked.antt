@@ -1,6 +1,6 @@
 -- The marked steps hold of the definitions. Assumes nothing.
 use mathlib.Core.Path.{refl}
-use Rattle.refusal.specs.First.{first}
+use Rattle.notions.specs.First.{first}
 use Rattle.layout.specs.Layouts.{layoutOf, layoutCheck}
 use Rattle.rules.specs.Rules.{cause}
 use Rattle.demands.specs.Marked as claim

@@ -6,8 +6,8 @@ use Prim.Native.Nat.{ℕ, zero, suc}
 use native.Mathlib.Omega.{arith}
 use lib.ListN.{length, getD, set, length-set}
 use lib.Seq.{getD-set-other}
-use Rattle.refusal.specs.Choice.{pick}
-use Rattle.refusal.proofs.Tests.{cases}
+use Rattle.notions.specs.Choice.{pick}
+use Rattle.notions.proofs.Tests.{cases}
 use Rattle.layout.specs.declared.Layout.{Layout}
 use Rattle.layout.specs.Regions.{within}
 use Rattle.effects.specs.Effects.{lands, stored}

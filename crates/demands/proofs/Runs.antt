@@ -4,10 +4,10 @@ use mathlib.Core.List.{append-assoc, append-nil}
 use Prim.Native.Nat.{ℕ, zero, suc, _+_, _<_}
 use native.Mathlib.Nat.{add-zero, add-suc, add-assoc}
 use native.Mathlib.Omega.{arith}
-use Rattle.refusal.specs.Choice.{pick}
+use Rattle.notions.specs.Choice.{pick}
 use Rattle.layout.specs.declared.Layout.{Layout}
-use Rattle.rules.specs.declared.Step.{Step}
-use Rattle.rules.specs.Rules.{resets}
+use Rattle.steps.specs.declared.Step.{Step}
+use Rattle.monitor.specs.Decisions.{resets}
 use Rattle.effects.specs.Effects.{bytes}
 use Rattle.monitor.specs.Runs.{State, before, said, answers, resetting}
 use Rattle.monitor.proofs.Runs.{same-next, same-said, same-resets, alike}

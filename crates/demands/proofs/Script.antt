@@ -10,27 +10,30 @@ use lib.Dec.{eqb, ltb}
 use lib.ListN.{length, getD, take, length-append}
 use lib.Seq.{drop-at}
 use borrow.Author.Tests.{eqb-true, eqb-false, ltb-true, ltb-false, lt-ltb, le-ltb}
-use Rattle.refusal.specs.Bytes.{Bytes}
-use Rattle.refusal.specs.Choice.{pick}
+use Rattle.notions.specs.Bytes.{Bytes}
+use Rattle.notions.specs.Choice.{pick}
 use Rattle.refusal.specs.declared.Answer.the-variants.{Done}
-use Rattle.refusal.proofs.Bytes.{bytes-cons, bytes-append}
-use Rattle.refusal.proofs.Tests.{cases}
-use Rattle.refusal.proofs.First.{found-none}
+use Rattle.notions.proofs.Bytes.{bytes-cons, bytes-append}
+use Rattle.notions.proofs.Tests.{cases}
+use Rattle.notions.proofs.First.{found-none}
 use Rattle.layout.specs.declared.Layout.{Layout}
 use Rattle.layout.specs.Layouts.{layoutOf}
 use Rattle.layout.specs.Calls.{memoryBytes, callCheck}
 use Rattle.layout.proofs.Laws.{zero-outside}
 use Rattle.layout.proofs.Calls.{call-rest}
-use Rattle.rules.specs.declared.Step.{Step}
+use Rattle.steps.specs.declared.Step.{Step}
 use Rattle.rules.specs.declared.Monitor.{Monitor}
-use Rattle.rules.specs.Steps.{stepOf, flags, encode, Addressed}
-use Rattle.rules.specs.Rules.{cause, start, next}
-use Rattle.rules.proofs.Laws.{flags-most, tells-step, clean-encode}
+use Rattle.steps.specs.Steps.{stepOf, flags, encode, Addressed}
+use Rattle.rules.specs.Rules.{cause, start}
+use Rattle.monitor.specs.Decisions.{next}
+use Rattle.steps.proofs.Laws.{flags-most, tells-step, clean-encode}
 use Rattle.effects.specs.Effects.{stored, storing, written}
 use Rattle.monitor.specs.declared.Traced.{Traced}
 use Rattle.monitor.specs.declared.Traced.the-variants as traced
-use Rattle.monitor.specs.Runs.{State, stepSize, answerSize, count, stepBytes, steps, begin, before, resetting}
-use Rattle.monitor.specs.Promises.{mostSteps, unclean, traceCheck, Traces}
+use Rattle.monitor.specs.Runs.{State, begin, before, resetting}
+use Rattle.traces.specs.Traces.{stepSize, answerSize, count, stepBytes, steps}
+use Rattle.traces.specs.Traces.{mostSteps, unclean, traceCheck}
+use Rattle.monitor.specs.Promises.{Traces}
 use Rattle.monitor.specs.Settled.{traced-row-settled}
 use Rattle.board.specs.Memory.{challenge, replyAt}
 use Rattle.board.specs.Attestation.{due}

@@ -10,31 +10,36 @@ use lib.Dec.{eqb}
 use lib.ListN.{length, getD, take, drop, length-drop}
 use lib.Seq.{take-append-le, drop-append-le, drop-append-add}
 use borrow.Author.Tests.{eqb-true, eqb-false, ne-eqb, not-true, not-false}
-use Rattle.refusal.specs.Choice.{pick}
-use Rattle.refusal.specs.First.{first}
+use Rattle.notions.specs.Choice.{pick}
+use Rattle.notions.specs.First.{first}
 use Rattle.refusal.specs.declared.Answer.the-variants.{Done}
-use Rattle.refusal.proofs.Tests.{cases, clash, both}
+use Rattle.notions.proofs.Tests.{cases, clash, both}
 use Rattle.layout.specs.declared.Layout.{Layout}
 use Rattle.layout.specs.Layouts.{layoutOf, layoutCheck}
 use Rattle.layout.specs.Calls.{memoryBytes, callCheck}
 use Rattle.layout.proofs.Calls.{call-passed, call-rest}
 use Rattle.layout.specs.Regions.{within, outside}
-use Rattle.rules.specs.declared.Step.{Step}
+use Rattle.steps.specs.declared.Step.{Step}
 use Rattle.rules.specs.declared.Monitor.{Monitor}
-use Rattle.rules.specs.Steps.{bit, stepOf}
-use Rattle.rules.specs.Rules.{writable, cause, resets, next}
-use Rattle.rules.proofs.Laws.{held-away, reset-cause, passes-cause, passes-only, inside-unheld, rule-6}
+use Rattle.steps.specs.Steps.{bit, stepOf}
+use Rattle.rules.specs.Rules.{writable, cause}
+use Rattle.monitor.specs.Decisions.{resets, next}
+use Rattle.rules.proofs.Laws.{held-away, rule-6}
+use Rattle.monitor.proofs.Decisions.{reset-cause, passes-cause, passes-only, inside-unheld}
 use Rattle.monitor.specs.declared.Stepped.{Stepped}
 use Rattle.monitor.specs.declared.Stepped.the-variants as stepped
 use Rattle.monitor.specs.declared.Totals.{Totals}
 use Rattle.monitor.specs.declared.Traced.the-variants as traced
 use Rattle.effects.specs.Effects.{cpuExposed, dmaExposed, exposing, answer, bytes, lands, written}
-use Rattle.monitor.specs.Runs.{State, stepSize, answerSize, count, stepBytes, steps, begin, before, said, resetting, totals}
+use Rattle.monitor.specs.Runs.{State, begin, before, said, resetting, totals}
+use Rattle.traces.specs.Traces.{stepSize, answerSize, count, stepBytes, steps}
 use Rattle.monitor.specs.Settled.{stepped-row-settled}
 use Rattle.effects.proofs.Laws.{written-byte}
 use Rattle.monitor.proofs.Laws.{length-before, answer-at}
-use Rattle.monitor.proofs.Checks.{traced-judged, Fitting, trace-passed, one-step, one-passes}
-use Rattle.monitor.specs.Promises.{traceCheck, stepCheck, Traces}
+use Rattle.monitor.proofs.Checks.{traced-judged}
+use Rattle.traces.proofs.Checks.{Fitting, trace-passed, one-step, one-passes}
+use Rattle.traces.specs.Traces.{traceCheck, stepCheck}
+use Rattle.monitor.specs.Promises.{Traces}
 use Rattle.demands.specs.Traces as claim
 use Rattle.demands.specs.Traces.{crOrKr, ctrOrXs, remembers, causeAt, resetsAt, byteAt}
 use Rattle.demands.proofs.Runs.{in-parts}

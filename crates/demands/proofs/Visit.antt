@@ -10,18 +10,19 @@ use lib.Dec.{eqb, ltb}
 use lib.ListN.{length, getD, take, set}
 use lib.Seq.{sets, take-all, getD-set-same}
 use borrow.Author.Tests.{eq-eqb, ltb-true, ltb-false, lt-ltb, le-ltb}
-use Rattle.refusal.specs.Bytes.{Bytes}
+use Rattle.notions.specs.Bytes.{Bytes}
 use Rattle.refusal.specs.declared.Answer.the-variants.{Done}
-use Rattle.refusal.proofs.Tests.{cases, clash, neither}
+use Rattle.notions.proofs.Tests.{cases, clash, neither}
 use Rattle.layout.specs.declared.Layout.{Layout}
 use Rattle.layout.specs.Regions.{within}
 use Rattle.layout.specs.Layouts.{CR, KR, MR, CTR, region, layoutOf}
 use Rattle.layout.specs.Good.{Good}
 use Rattle.layout.proofs.Laws.{ends-within, elsewhere}
 use Rattle.layout.proofs.Placed.{Placed}
-use Rattle.rules.specs.declared.Step.{Step}
+use Rattle.steps.specs.declared.Step.{Step}
 use Rattle.rules.specs.declared.Monitor.{Monitor}
-use Rattle.rules.specs.Rules.{writable, rule15, cause, next}
+use Rattle.rules.specs.Rules.{writable, rule15, cause}
+use Rattle.monitor.specs.Decisions.{next}
 use Rattle.rules.proofs.Laws.{unbroken-passes}
 use Rattle.rules.proofs.None.{visit-lowest}
 use Rattle.effects.specs.Effects.{stored, storing, written}

@@ -7,11 +7,12 @@ use native.Mathlib.Nat.{add-suc}
 use native.Mathlib.Omega.{arith}
 use lib.Dec.{eqb}
 use borrow.Author.Tests.{eqb-true, eqb-false, ne-eqb}
-use Rattle.refusal.specs.First.{first}
-use Rattle.refusal.proofs.Tests.{cases, untrue, clash}
+use Rattle.notions.specs.First.{first}
+use Rattle.notions.proofs.Tests.{cases, untrue, clash}
 use Rattle.rules.specs.declared.Monitor.{Monitor}
-use Rattle.rules.specs.Rules.{broken, numbered, cause, next}
-use Rattle.rules.proofs.Laws.{breaks-resets, inside-unheld}
+use Rattle.rules.specs.Rules.{broken, numbered, cause}
+use Rattle.monitor.specs.Decisions.{next}
+use Rattle.monitor.proofs.Decisions.{breaks-resets, inside-unheld}
 use Rattle.monitor.specs.Runs.{before}
 use Rattle.demands.specs.Traces.{remembers, causeAt, resetsAt}
 use Rattle.demands.specs.Vrased as claim

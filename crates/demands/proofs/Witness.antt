@@ -6,17 +6,19 @@ use Prim.Native.Nat.{ℕ, zero, suc, _≤_, _<_, _+_}
 use native.Mathlib.Omega.{arith}
 use lib.ListN.{length, getD, take, drop, replicate, length-replicate}
 use borrow.Author.Tests.{le-leb}
-use Rattle.refusal.specs.First.{first}
+use Rattle.notions.specs.First.{first}
 use Rattle.refusal.specs.declared.Answer.the-variants.{Done}
 use Rattle.layout.specs.declared.Region.{Region}
 use Rattle.layout.specs.Regions.{outside}
 use Rattle.layout.specs.Layouts.{layoutOf, layoutCheck}
 use Rattle.layout.specs.Calls.{callCheck}
-use Rattle.rules.specs.Steps.{stepOf}
-use Rattle.rules.specs.Rules.{cause, next}
+use Rattle.steps.specs.Steps.{stepOf}
+use Rattle.rules.specs.Rules.{cause}
+use Rattle.monitor.specs.Decisions.{next}
 use Rattle.effects.specs.Effects.{exposing, answer, stored, storing, written}
-use Rattle.monitor.specs.Runs.{begin, steps, before, answers, resetting}
-use Rattle.monitor.specs.Promises.{traceCheck}
+use Rattle.monitor.specs.Runs.{begin, before, answers, resetting}
+use Rattle.traces.specs.Traces.{steps}
+use Rattle.traces.specs.Traces.{traceCheck}
 use Rattle.demands.specs.Demand3.{Agree, SameTrace}
 use Rattle.demands.specs.Witness.{layout, others, board, trace, room, answered, Call, Demand3Witness}
 

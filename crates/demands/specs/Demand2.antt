@@ -9,8 +9,8 @@ use Prim.Native.Nat.{ℕ, zero, suc, _+_, _*_, _≤_, _<_}
 use lib.Dec.{eqb}
 use lib.ListN.{length, getD}
 use lib.Seq.{sets}
-use Rattle.refusal.specs.Bytes.{Bytes}
-use Rattle.refusal.specs.Choice.{pick}
+use Rattle.notions.specs.Bytes.{Bytes}
+use Rattle.notions.specs.Choice.{pick}
 use Rattle.refusal.specs.Answers.{refusedAt}
 use Rattle.refusal.specs.Numbers.{challengeNotGreater, tokenDiffers, lengthOrTotal}
 use Rattle.refusal.specs.declared.Refusal.{Refusal}
@@ -20,13 +20,14 @@ use Rattle.layout.specs.declared.Layout.{Layout}
 use Rattle.layout.specs.Layouts.{layoutOf}
 use Rattle.layout.specs.Good.{Good}
 use Rattle.layout.specs.Calls.{memoryBytes}
-use Rattle.rules.specs.declared.Step.{Step}
+use Rattle.steps.specs.declared.Step.{Step}
 use Rattle.rules.specs.declared.Monitor.{Monitor}
-use Rattle.rules.specs.Rules.{rule15, broken, numbered, start, next}
+use Rattle.rules.specs.Rules.{rule15, broken, numbered, start}
+use Rattle.monitor.specs.Decisions.{next}
 use Rattle.monitor.specs.declared.Stepped.the-variants as stepped
 use Rattle.monitor.specs.declared.Traced.the-variants as traced
 use Rattle.monitor.specs.declared.Totals.{Totals}
-use Rattle.monitor.specs.Runs.{answerSize, count, steps}
+use Rattle.traces.specs.Traces.{answerSize, count, steps}
 use Rattle.monitor.specs.Promises.{Steps, Traces}
 use Rattle.sha256.specs.declared.Digest.{Digest}
 use Rattle.hmac.specs.Hmac.{hmac}

@@ -6,17 +6,18 @@ use mathlib.Core.List.{List}
 use Prim.Native.Nat.{ℕ, _/_, _%_, _<_}
 use lib.Dec.{eqb}
 use lib.ListN.{length, getD}
-use Rattle.refusal.specs.Choice.{pick}
+use Rattle.notions.specs.Choice.{pick}
 use Rattle.layout.specs.declared.Layout.{Layout}
 use Rattle.layout.specs.Regions.{outside}
 use Rattle.layout.specs.Layouts.{layoutOf}
-use Rattle.rules.specs.declared.Step.{Step}
+use Rattle.steps.specs.declared.Step.{Step}
 use Rattle.rules.specs.declared.Monitor.{Monitor}
 use Rattle.rules.specs.Rules.{codeWrites, cause, start}
 use Rattle.monitor.specs.declared.Stepped.{Stepped}
 use Rattle.monitor.specs.declared.Traced.{Traced}
 use Rattle.effects.specs.Effects.{answer}
-use Rattle.monitor.specs.Runs.{stepSize, steps, State, begin, before, said, answers, resetting}
+use Rattle.traces.specs.Traces.{stepSize, steps}
+use Rattle.monitor.specs.Runs.{State, begin, before, said, answers, resetting}
 use Rattle.monitor.specs.Promises.{Steps, Traces}
 use Rattle.demands.specs.Marked.{dmaReads}
 

@@ -6,19 +6,21 @@ use mathlib.Core.Bool.{Bool, true, false, not, _&&_}
 use mathlib.Core.List.{List}
 use Prim.Native.Nat.{ℕ, suc, _≤_, _<_}
 use lib.ListN.{length}
-use Rattle.refusal.specs.Bytes.{Bytes}
+use Rattle.notions.specs.Bytes.{Bytes}
 use Rattle.refusal.specs.declared.Answer.{Answer}
 use Rattle.refusal.specs.declared.Answer.the-variants.{Done}
 use Rattle.layout.specs.declared.Layout.{Layout}
 use Rattle.layout.specs.Layouts.{layoutOf}
 use Rattle.layout.specs.Calls.{memoryBytes}
 use Rattle.layout.specs.Good.{Good}
-use Rattle.rules.specs.declared.Step.{Step}
+use Rattle.steps.specs.declared.Step.{Step}
 use Rattle.rules.specs.declared.Monitor.{Monitor}
-use Rattle.rules.specs.Rules.{codeWrites, resets}
+use Rattle.rules.specs.Rules.{codeWrites}
+use Rattle.monitor.specs.Decisions.{resets}
 use Rattle.monitor.specs.declared.Stepped.{Stepped}
 use Rattle.monitor.specs.declared.Traced.{Traced}
-use Rattle.monitor.specs.Runs.{count, steps, begin, before}
+use Rattle.traces.specs.Traces.{count, steps}
+use Rattle.monitor.specs.Runs.{begin, before}
 use Rattle.monitor.specs.Promises.{Steps, Traces}
 use Rattle.routine.specs.Strings.{greater, weight}
 use Rattle.board.specs.Memory.{bytesOf, key, counter, challenge, received}

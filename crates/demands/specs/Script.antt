@@ -5,16 +5,16 @@ use mathlib.Core.List.{List, [], _++_}
 use Prim.Native.Nat.{ℕ, zero, suc, _≤_, _<_}
 use lib.Dec.{ltb}
 use lib.ListN.{length}
-use Rattle.refusal.specs.Bytes.{Bytes}
-use Rattle.refusal.specs.Choice.{pick}
+use Rattle.notions.specs.Bytes.{Bytes}
+use Rattle.notions.specs.Choice.{pick}
 use Rattle.refusal.specs.declared.Answer.the-variants.{Done}
 use Rattle.layout.specs.declared.Layout.{Layout}
 use Rattle.layout.specs.Layouts.{layoutOf}
-use Rattle.rules.specs.declared.Step.{Step}
-use Rattle.rules.specs.Steps.{encode, Addressed}
+use Rattle.steps.specs.declared.Step.{Step}
+use Rattle.steps.specs.Steps.{encode, Addressed}
 use Rattle.monitor.specs.declared.Traced.{Traced}
 use Rattle.monitor.specs.declared.Traced.the-variants as traced
-use Rattle.monitor.specs.Runs.{steps}
+use Rattle.traces.specs.Traces.{steps}
 use Rattle.monitor.specs.Promises.{Traces}
 use Rattle.board.specs.Promises.{Attests}
 use Rattle.demands.specs.Marked.{at}

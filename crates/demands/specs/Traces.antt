@@ -5,19 +5,21 @@ use mathlib.Core.Bool.{Bool, true, false, _||_}
 use mathlib.Core.List.{List, [], _∷_, _++_}
 use Prim.Native.Nat.{ℕ, zero, suc, _+_, _*_, _≤_, _<_}
 use lib.ListN.{length, getD, take, drop}
-use Rattle.refusal.specs.Choice.{pick}
+use Rattle.notions.specs.Choice.{pick}
 use Rattle.layout.specs.declared.Layout.{Layout}
 use Rattle.layout.specs.Regions.{within, outside}
-use Rattle.rules.specs.declared.Step.{Step}
+use Rattle.steps.specs.declared.Step.{Step}
 use Rattle.rules.specs.declared.Monitor.{Monitor}
-use Rattle.rules.specs.Steps.{bit}
-use Rattle.rules.specs.Rules.{writable, cause, resets, start}
+use Rattle.steps.specs.Steps.{bit}
+use Rattle.rules.specs.Rules.{writable, cause, start}
+use Rattle.monitor.specs.Decisions.{resets}
 use Rattle.monitor.specs.declared.Stepped.{Stepped}
 use Rattle.monitor.specs.declared.Stepped.the-variants as stepped
 use Rattle.monitor.specs.declared.Traced.the-variants as traced
 use Rattle.monitor.specs.declared.Totals.{Totals}
 use Rattle.effects.specs.Effects.{bytes}
-use Rattle.monitor.specs.Runs.{State, stepSize, answerSize, count, stepBytes, steps, before, said, answers, resetting}
+use Rattle.monitor.specs.Runs.{State, before, said, answers, resetting}
+use Rattle.traces.specs.Traces.{stepSize, answerSize, count, stepBytes, steps}
 use Rattle.monitor.specs.Promises.{Steps, Traces}
 
 -- ---- step n of a run of trace t from state x

@@ -6,14 +6,14 @@ use mathlib.Core.List.{List}
 use Prim.Native.Nat.{ℕ, _+_, _-_, _<_}
 use lib.Dec.{eqb, ltb}
 use lib.ListN.{length, getD}
-use Rattle.refusal.specs.Bytes.{Bytes}
-use Rattle.refusal.specs.Choice.{pick}
+use Rattle.notions.specs.Bytes.{Bytes}
+use Rattle.notions.specs.Choice.{pick}
 use Rattle.refusal.specs.declared.Answer.the-variants.{Done}
 use Rattle.layout.specs.declared.Layout.{Layout}
 use Rattle.layout.specs.Layouts.{layoutOf}
 use Rattle.layout.specs.Good.{Good}
 use Rattle.layout.specs.Regions.{within}
-use Rattle.rules.specs.declared.Step.{Step}
+use Rattle.steps.specs.declared.Step.{Step}
 use Rattle.rules.specs.Rules.{writable}
 use Rattle.monitor.specs.Runs.{State, before}
 use Rattle.board.specs.Memory.{challenge, replyAt}

@@ -8,7 +8,7 @@ use lib.ListN.{getD}
 use Rattle.layout.specs.declared.Region.{Region}
 use Rattle.layout.specs.declared.Layout.{Layout}
 use Rattle.layout.specs.Regions.{within}
-use Rattle.rules.specs.declared.Step.{Step}
+use Rattle.steps.specs.declared.Step.{Step}
 use Rattle.monitor.specs.Runs.{State, begin}
 use Rattle.demands.specs.Marked.{page, at, writes, dmaReads}
 use Rattle.demands.specs.Traces.{resetsAt}

@@ -7,8 +7,8 @@ use lib.Dec.{leb}
 use lib.ListN.{length, getD, set, List·getD-eq-default}
 use lib.Seq.{set-out}
 use borrow.Author.Tests.{not-false, leb-true, leb-false}
-use Rattle.refusal.specs.Choice.{pick}
-use Rattle.refusal.proofs.Tests.{cases, neither}
+use Rattle.notions.specs.Choice.{pick}
+use Rattle.notions.proofs.Tests.{cases, neither}
 use Rattle.layout.specs.declared.Layout.{Layout}
 use Rattle.layout.specs.Regions.{within}
 use Rattle.effects.specs.Effects.{lands, stored}

@@ -7,19 +7,17 @@ use Prim.Native.Nat.{ℕ, zero, suc}
 use lib.Dec.{eqb}
 use lib.ListN.{length, getD, set, length-set}
 use borrow.Author.Tests.{eqb-true}
-use Rattle.refusal.specs.Choice.{pick}
-use Rattle.refusal.proofs.Tests.{cases}
+use Rattle.notions.specs.Choice.{pick}
+use Rattle.notions.proofs.Tests.{cases}
 use Rattle.layout.specs.declared.Layout.{Layout}
-use Rattle.rules.specs.declared.Step.{Step}
-use Rattle.rules.specs.declared.Monitor.{Monitor}
-use Rattle.rules.specs.Rules.{cause, resets}
-use Rattle.effects.specs.Effects.{exposing, answer, lands, stored, storing, written}
+use Rattle.steps.specs.declared.Step.{Step}
+use Rattle.effects.specs.Effects.{exposing, isReset, answer, lands, stored, storing, written}
 
 -- the answer's cause is the step's
-pub answer-cause : (l : Layout) (m : Monitor) (s : Step) (memory : List ℕ) → answer l m s memory .cause ≡ cause l m s
+pub answer-cause : (l : Layout) (c : ℕ) (s : Step) (memory : List ℕ) → answer l c s memory .cause ≡ c
 unfolding answer exposing
-answer-cause l m s memory =
-    cases (eqb (cause l m s) 0) (λ e. simp e (simp (eqb-true (cause l m s) 0 e))) (λ e. simp e)
+answer-cause l c s memory =
+    cases (eqb c 0) (λ e. simp e (simp (eqb-true c 0 e))) (λ e. simp e)
 
 -- no step makes the memory longer or shorter
 pick-long : (t : Bool) (a b : List ℕ) (n : ℕ) → length a ≡ n → length b ≡ n → length (pick t a b) ≡ n
@@ -30,9 +28,9 @@ length-stored : (l : Layout) (on : Bool) (a v : ℕ) (memory : List ℕ) → len
 unfolding stored
 length-stored l on a v memory = pick-long (lands l on a) _ memory _ (length-set memory a v) refl
 
-pub length-written : (l : Layout) (m : Monitor) (s : Step) (memory : List ℕ) → length (written l m s memory) ≡ length memory
+pub length-written : (l : Layout) (c : ℕ) (s : Step) (memory : List ℕ) → length (written l c s memory) ≡ length memory
 unfolding written storing
-length-written l m s memory = pick-long (resets l m s) memory _ _ refl (length-stored l _ _ _ _ ∙ length-stored l _ _ _ _)
+length-written l c s memory = pick-long (isReset c) memory _ _ refl (length-stored l _ _ _ _ ∙ length-stored l _ _ _ _)
 
 set-byte : (memory : List ℕ) (a v k : ℕ)
     → (getD (set memory a v) k 0 ≡ getD memory k 0) ⊎ ((a ≡ k) × (getD (set memory a v) k 0 ≡ v))
@@ -57,26 +55,27 @@ stored-byte l on a v memory k =
     (λ e. inl (simp e))
 
 -- a step that does not reset stores v to address k: `on` says that the access takes place, and a is its address
-pub record Stores (l : Layout) (m : Monitor) (s : Step) (memory : List ℕ) (k : ℕ) (on : Bool) (a v : ℕ) : Type 0 where
-  pub passes : resets l m s ≡ false
+pub record Stores (l : Layout) (c : ℕ) (s : Step) (memory : List ℕ) (k : ℕ) (on : Bool) (a v : ℕ) : Type 0 where
+  pub passes : isReset c ≡ false
   pub lands : lands l on a ≡ true
   pub address : a ≡ k
-  pub byte : getD (written l m s memory) k 0 ≡ v
+  pub byte : getD (written l c s memory) k 0 ≡ v
 
 -- what a step leaves at address k: the byte from before, the CPU's or the DMA's
-pub written-byte : (l : Layout) (m : Monitor) (s : Step) (memory : List ℕ) (k : ℕ)
-    → (getD (written l m s memory) k 0 ≡ getD memory k 0)
-    ⊎ Stores l m s memory k (s .writes) (s .cpu) (s .cpudata)
-    ⊎ Stores l m s memory k (s .active && s .stores) (s .dma) (s .dmadata)
+pub written-byte : (l : Layout) (c : ℕ) (s : Step) (memory : List ℕ) (k : ℕ)
+    → (getD (written l c s memory) k 0 ≡ getD memory k 0)
+    ⊎ Stores l c s memory k (s .cpuwrites) (s .cpuaddress) (s .cpudata)
+    ⊎ Stores l c s memory k (s .dmaactive && s .dmawrites) (s .dmaaddress) (s .dmadata)
 unfolding written storing
-written-byte l m s memory k =
-    cases (resets l m s) (λ e. inl (simp e))
+written-byte l c s memory k =
+    cases (isReset c) (λ e. inl (simp e))
     (λ e.
-    elim (stored-byte l (s .active && s .stores) (s .dma) (s .dmadata) (stored l (s .writes) (s .cpu) (s .cpudata) memory) k) [
+    let between = stored l (s .cpuwrites) (s .cpuaddress) (s .cpudata) memory in
+    elim (stored-byte l (s .dmaactive && s .dmawrites) (s .dmaaddress) (s .dmadata) between k) [
       | inl d ↦
-          elim (stored-byte l (s .writes) (s .cpu) (s .cpudata) memory k) [
-            | inl c ↦ inl (simp e (d ∙ c))
-            | inr c ↦ inr (inl (record { passes = e; lands = c .0; address = c .1; byte = simp e (d ∙ c .2) }))
+          elim (stored-byte l (s .cpuwrites) (s .cpuaddress) (s .cpudata) memory k) [
+            | inl q ↦ inl (simp e (d ∙ q))
+            | inr q ↦ inr (inl (record { passes = e; lands = q .0; address = q .1; byte = simp e (d ∙ q .2) }))
           ]
       | inr d ↦ inr (inr (record { passes = e; lands = d .0; address = d .1; byte = simp e (d .2) }))
     ])

@@ -1,11 +1,10 @@
-// What one step hands out and what it stores.
+// What one step hands out and what it stores, by its cause.
 use layout::Layout;
-use rules::Monitor;
-use rules::Step;
+use steps::Step;
 ghost use mathlib.Core.Path.{_≡_};
 ghost use Prim.Native.Nat.{_+_};
 ghost use lib.ListN.{getD};
-ghost use Rattle.refusal.specs.Choice.{pick};
+ghost use Rattle.notions.specs.Choice.{pick};
 ghost use Rattle.effects.specs.Effects as E;
 ghost use Rattle.effects.specs.Promises as P;
 
@@ -13,14 +12,8 @@ ghost use Rattle.effects.specs.Promises as P;
 pub struct StepAnswer {
     pub cause: u8,
     pub exposed: u8,
-    pub cpu: u8,
-    pub dma: u8,
-}
-
-// What one step leaves beside the memory.
-pub struct Judged {
-    pub answer: StepAnswer,
-    pub monitor: Monitor,
+    pub cpubyte: u8,
+    pub dmabyte: u8,
 }
 
 // The byte at an address, or 0 where it is not exposed.
@@ -63,58 +56,51 @@ fn access(l: Layout, s: Step, memory: &mut [u8]) -> StepAnswer
     ensures { λ r. ⌜ (r ≡ E.exposing l s (now (memory .entry)))
         × (now (memory .exit) ≡ E.storing l s (now (memory .entry))) ⌝ }
 {
-    let cpu_seen = s.reads & !l.cr.holds(s.pc);
-    let dma_seen = s.active & !s.stores;
-    let cpu_stores = s.writes;
-    let dma_stores = s.active & s.stores;
+    let cpu_seen = s.cpureads & !l.cr.holds(s.pc);
+    let dma_seen = s.dmaactive & !s.dmawrites;
+    let cpu_stores = s.cpuwrites;
+    let dma_stores = s.dmaactive & s.dmawrites;
     let exposed = exposure(cpu_seen, dma_seen);
-    let cpu = peek(cpu_seen, s.cpu, memory);
-    let dma = peek(dma_seen, s.dma, memory);
-    put(l, cpu_stores, s.cpu, s.cpudata, memory);
-    put(l, dma_stores, s.dma, s.dmadata, memory);
+    let cpubyte = peek(cpu_seen, s.cpuaddress, memory);
+    let dmabyte = peek(dma_seen, s.dmaaddress, memory);
+    put(l, cpu_stores, s.cpuaddress, s.cpudata, memory);
+    put(l, dma_stores, s.dmaaddress, s.dmadata, memory);
     StepAnswer {
         cause: 0,
         exposed,
-        cpu,
-        dma,
+        cpubyte,
+        dmabyte,
     }
 }
 
 // A step that does not reset. With PC in CR and the DMA at rest nothing is handed out, so that only the CPU's store is left.
-fn act(l: Layout, s: Step, memory: &mut [u8]) -> StepAnswer
+fn perform(l: Layout, s: Step, memory: &mut [u8]) -> StepAnswer
     ensures { λ r. ⌜ (r ≡ E.exposing l s (now (memory .entry)))
         × (now (memory .exit) ≡ E.storing l s (now (memory .entry))) ⌝ }
 {
-    if l.cr.holds(s.pc) & !s.active {
-        put(l, s.writes, s.cpu, s.cpudata, memory);
+    if l.cr.holds(s.pc) & !s.dmaactive {
+        put(l, s.cpuwrites, s.cpuaddress, s.cpudata, memory);
         return StepAnswer {
             cause: 0,
             exposed: 0,
-            cpu: 0,
-            dma: 0,
+            cpubyte: 0,
+            dmabyte: 0,
         };
     }
     access(l, s, memory)
 }
 
-// One step on memory of any length: its answer, what the monitor then remembers, and its stores.
-pub fn judge(l: Layout, m: Monitor, s: Step, memory: &mut [u8]) -> Judged
-    ensures { λ r. ⌜ P.Acts l m s (now (memory .entry)) (now (memory .exit)) r ⌝ }
+// A step that has been given its cause, on memory of any length: its answer and its stores, which are none if it resets.
+pub fn act(l: Layout, cause: u8, s: Step, memory: &mut [u8]) -> StepAnswer
+    ensures { λ r. ⌜ P.Acts l cause s (now (memory .entry)) (now (memory .exit)) r ⌝ }
 {
-    let cause = rules::cause(l, m, s);
-    let monitor = Monitor {
-        held: cause != 0,
-        last: s.pc,
-    };
     if cause == 0 {
-        let answer = act(l, s, memory);
-        return Judged { answer, monitor };
+        return perform(l, s, memory);
     }
-    let answer = StepAnswer {
+    StepAnswer {
         cause,
         exposed: 0,
-        cpu: 0,
-        dma: 0,
-    };
-    Judged { answer, monitor }
+        cpubyte: 0,
+        dmabyte: 0,
+    }
 }

@@ -1,6 +1,6 @@
 -- Each cause has its step, computed. Assumes nothing.
 use mathlib.Core.Path.{refl}
-use Rattle.refusal.specs.First.{first}
+use Rattle.notions.specs.First.{first}
 use Rattle.rules.specs.Rules.{cause}
 use Rattle.examples.specs.Causes as claim
 

@@ -4,15 +4,17 @@ use mathlib.Core.List.{List}
 use Prim.Native.Nat.{ℕ, _≤_}
 use lib.ListN.{length}
 use borrow.Author.Tests.{le-ltb}
-use Rattle.refusal.specs.First.{first}
+use Rattle.notions.specs.First.{first}
 use Rattle.refusal.specs.declared.Answer.the-variants as call
 use Rattle.octets.specs.Numbers.{number}
 use Rattle.layout.specs.Layouts.{layoutOf, layoutCheck}
-use Rattle.rules.specs.Steps.{stepOf}
-use Rattle.rules.specs.Rules.{cause, next}
+use Rattle.steps.specs.Steps.{stepOf}
+use Rattle.rules.specs.Rules.{cause}
+use Rattle.monitor.specs.Decisions.{next}
 use Rattle.effects.specs.Effects.{exposing, answer, stored, storing, written}
-use Rattle.monitor.specs.Runs.{begin, steps, before, said, resetting}
-use Rattle.monitor.specs.Promises.{traceCheck}
+use Rattle.monitor.specs.Runs.{begin, before, said, resetting}
+use Rattle.traces.specs.Traces.{steps}
+use Rattle.traces.specs.Traces.{traceCheck}
 use Rattle.runfile.specs.Contents.{begins, entryFails, firstFailing, fileCheck, body}
 use Rattle.runfile.specs.Segments.{place, reached, segments, segmentFails, firstWrong, segmentCheck, image}
 use Rattle.report.specs.Text.{places, decimal, line, lines, totalsLine, judgedText}

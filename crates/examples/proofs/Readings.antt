@@ -1,6 +1,6 @@
 -- The reader's table holds: both sides are worked out. Assumes nothing.
 use mathlib.Core.Path.{refl}
-use Rattle.rules.specs.Steps.{stepOf}
+use Rattle.steps.specs.Steps.{stepOf}
 use Rattle.reader.specs.Reading.{readAt}
 use Rattle.examples.specs.Readings.{EachReading}
 

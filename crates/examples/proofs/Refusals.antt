@@ -3,7 +3,7 @@ use mathlib.Core.Path.{_≡_, refl}
 use mathlib.Core.List.{List, []}
 use Prim.Native.Nat.{ℕ}
 use lib.ListN.{length, length-replicate}
-use Rattle.refusal.specs.First.{first}
+use Rattle.notions.specs.First.{first}
 use Rattle.refusal.specs.Answers.{refusedAt}
 use Rattle.refusal.specs.declared.Answer.the-variants as call
 use Rattle.sha256_block.specs.Words.{add, word, words, bytes}
@@ -14,7 +14,8 @@ use Rattle.hmac.specs.Hmac.{k0, xored, hmac}
 use Rattle.octets.specs.Numbers.{number}
 use Rattle.layout.specs.Layouts.{layoutOf, layoutCheck}
 use Rattle.monitor.specs.declared.Traced.the-variants as traced
-use Rattle.monitor.specs.Promises.{traceCheck, Traces}
+use Rattle.traces.specs.Traces.{traceCheck}
+use Rattle.monitor.specs.Promises.{Traces}
 use Rattle.routine.specs.Strings.{greater, same}
 use Rattle.routine.specs.Routine.{token, requestCheck}
 use Rattle.board.specs.Memory.{key, counter, challenge, received}

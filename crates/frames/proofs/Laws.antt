@@ -8,10 +8,10 @@ use lib.Dec.{eqb, ltb, leb}
 use lib.ListN.{length, getD, take, drop, length-append, length-drop, take-append-drop}
 use lib.Seq.{length-take-le, take-add}
 use borrow.Author.Tests.{ltb-true, ltb-false, leb-true, eqb-false, ne-eqb}
-use Rattle.refusal.specs.Bytes.{Bytes}
-use Rattle.refusal.specs.Choice.{pick}
-use Rattle.refusal.proofs.Bytes.{bytes-take, bytes-drop}
-use Rattle.refusal.proofs.Tests.{cases, clash, both}
+use Rattle.notions.specs.Bytes.{Bytes}
+use Rattle.notions.specs.Choice.{pick}
+use Rattle.notions.proofs.Bytes.{bytes-take, bytes-drop}
+use Rattle.notions.proofs.Tests.{cases, clash, both}
 use Rattle.octets.specs.Numbers.{little}
 use Rattle.octets.proofs.Laws.{bytes-back}
 use Rattle.frames.specs.declared.Framed.{Framed}

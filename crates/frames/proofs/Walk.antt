@@ -9,7 +9,7 @@ use lib.Dec.{ltb}
 use lib.ListN.{length, getD, take, drop, length-drop, length-take, drop-of-length-le, List·getD-eq-default}
 use lib.Seq.{length-take-le, take-all, take-take, take-length, drop-drop, drop-nil}
 use borrow.Author.Tests.{lt-ltb, le-ltb, ltb-true, ltb-false, eq-eqb, ne-eqb}
-use Rattle.refusal.proofs.Tests.{cases, clash, neither}
+use Rattle.notions.proofs.Tests.{cases, clash, neither}
 use Rattle.frames.specs.declared.Framed.{Framed}
 use Rattle.frames.specs.declared.Framed.the-variants.{Needs, Whole, Cut}
 use Rattle.frames.specs.Calls.{most, counts, count, allowed}

@@ -4,7 +4,7 @@ use mathlib.Core.Bool.{true}
 use mathlib.Core.List.{List, [], _∷_, _++_}
 use Prim.Native.Nat.{ℕ, _+_, _<_, _≤_}
 use lib.ListN.{length, getD, take}
-use Rattle.refusal.specs.Bytes.{Bytes}
+use Rattle.notions.specs.Bytes.{Bytes}
 use Rattle.octets.specs.Numbers.{little}
 use Rattle.frames.specs.declared.Framed.the-variants.{Needs, Whole}
 use Rattle.frames.specs.Calls.{most, count, allowed}

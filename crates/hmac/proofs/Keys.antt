@@ -7,7 +7,7 @@ use native.Mathlib.Omega.{arith}
 use borrow.Author.Tests.{lt-ltb, le-ltb, ne-eqb, eqb-true}
 use lib.Dec.{eqb}
 use lib.ListN.{length, replicate}
-use Rattle.refusal.proofs.Tests.{cases}
+use Rattle.notions.proofs.Tests.{cases}
 use Rattle.sha256.specs.Hash.{sha256}
 use Rattle.sha256.specs.Running.{blockOf}
 use Rattle.sha256.proofs.Running.{block-short}

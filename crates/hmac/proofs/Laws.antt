@@ -6,7 +6,7 @@ use Prim.Native.Nat.{ℕ}
 use native.Mathlib.Omega.{arith}
 use borrow.Author.Tests.{le-ltb}
 use lib.ListN.{length}
-use Rattle.refusal.specs.Bytes.{Bytes}
+use Rattle.notions.specs.Bytes.{Bytes}
 use Rattle.sha256.specs.declared.Digest.{Digest}
 use Rattle.sha256.proofs.Laws.{length-sha256, gives-bytes}
 use Rattle.sha256.proofs.Bytes.{bytes-sha256}

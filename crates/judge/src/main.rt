@@ -6,7 +6,7 @@ use libc::STDOUT_FILENO;
 fn main() {
     let mut file = [0u8; runfile::MOST + 1];
     let mut memory = [0u8; layout::MEMORY];
-    let mut room = [0u8; monitor::ANSWER * monitor::MOST_STEPS];
+    let mut room = [0u8; traces::ANSWER * traces::MOST_STEPS];
     let mut out = [0u8; report::LONGEST];
     let n = io::read_full(STDIN_FILENO, &mut file);
     let k = report::text(&file[0..n], &mut memory, &mut room, &mut out);

@@ -8,7 +8,7 @@ ghost use lib.ListN.{length};
 
 type Memory = [u8; layout::MEMORY];
 
-type Room = [u8; monitor::ANSWER * monitor::MOST_STEPS];
+type Room = [u8; traces::ANSWER * traces::MOST_STEPS];
 
 const MOST: usize = runfile::MOST + 1;
 
@@ -74,7 +74,7 @@ fn all(memory: &mut Memory, room: &mut Room) {
 
 fn main() {
     let mut memory = [0u8; layout::MEMORY];
-    let mut room = [0u8; monitor::ANSWER * monitor::MOST_STEPS];
+    let mut room = [0u8; traces::ANSWER * traces::MOST_STEPS];
     fill(&mut memory);
     all(&mut memory, &mut room);
 }

@@ -13,8 +13,8 @@ use Rattle.refusal.specs.Numbers.{layoutSize, regionReversed, regionSize, zeroI
 use Rattle.refusal.specs.declared.Refusal.{Refusal}
 use Rattle.refusal.specs.declared.Answer.{Answer}
 use Rattle.refusal.specs.declared.Answer.the-variants.{Done, Refused}
-use Rattle.refusal.proofs.Tests.{cases, untrue, clash, both, neither}
-use Rattle.refusal.proofs.First.{none-found, found-none}
+use Rattle.notions.proofs.Tests.{cases, untrue, clash, both, neither}
+use Rattle.notions.proofs.First.{none-found, found-none}
 use Rattle.refusal.proofs.Order.{done-passed, Refuses, refuses-none, refuses-test}
 use Rattle.layout.specs.declared.Region.{Region}
 use Rattle.layout.specs.declared.Layout.{Layout}

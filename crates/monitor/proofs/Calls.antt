@@ -26,9 +26,11 @@ use Rattle.effects.specs.declared.StepAnswer.{StepAnswer}
 use Rattle.effects.specs.declared.Judged.{Judged}
 use Rattle.effects.specs.Effects.{bytes}
 use Rattle.effects.specs.Promises.{Acts}
-use Rattle.monitor.specs.Runs.{count, steps, memoryAfter, roomAfter, totals}
-use Rattle.monitor.specs.Promises.{traceCheck, stepCheck, runCheck, totalsValues, Traces, Steps, Runs}
-use Rattle.monitor.proofs.Checks.{trace-passed, step-passed}
+use Rattle.traces.specs.Traces.{count, steps}
+use Rattle.monitor.specs.Runs.{memoryAfter, roomAfter, totals}
+use Rattle.traces.specs.Traces.{traceCheck, stepCheck}
+use Rattle.monitor.specs.Promises.{runCheck, totalsValues, Traces, Steps, Runs}
+use Rattle.traces.proofs.Checks.{trace-passed, step-passed}
 
 -- `admit` was given what the check of the other lengths and the steps says
 pub admitted : (memory layout : List ℕ) (rest check : Answer) (r q : Checked)

@@ -8,24 +8,25 @@ use lib.Dec.{eqb, ltb}
 use lib.ListN.{length, drop, length-take, length-drop}
 use lib.Seq.{take-take}
 use borrow.Author.Tests.{eqb-true, eq-eqb, ltb-false, le-ltb, not-false}
-use Rattle.refusal.specs.Choice.{pick}
-use Rattle.refusal.specs.First.{first}
+use Rattle.notions.specs.Choice.{pick}
+use Rattle.notions.specs.First.{first}
 use Rattle.refusal.specs.Numbers.{roomSize, stepNotZero}
 use Rattle.refusal.specs.Answers.{refusedAt, told}
 use Rattle.refusal.specs.Settled.{row-settled}
 use Rattle.refusal.specs.declared.Refusal.{Refusal}
 use Rattle.refusal.specs.declared.Answer.{Answer}
 use Rattle.refusal.specs.declared.Answer.the-variants.{Done, Refused}
-use Rattle.refusal.proofs.Tests.{cases, neither}
-use Rattle.refusal.proofs.First.{none-found}
+use Rattle.notions.proofs.Tests.{cases, neither}
+use Rattle.notions.proofs.First.{none-found}
 use Rattle.refusal.proofs.Order.{done-passed}
-use Rattle.rules.specs.Steps.{stepOf}
+use Rattle.steps.specs.Steps.{stepOf}
 use Rattle.rules.specs.declared.Monitor.{Monitor}
 use Rattle.monitor.specs.declared.Totals.{Totals}
 use Rattle.monitor.specs.declared.Stepped.the-variants as stepped
 use Rattle.monitor.specs.declared.Traced.the-variants as traced
-use Rattle.monitor.specs.Runs.{stepSize, answerSize, count, stepBytes, steps}
-use Rattle.monitor.specs.Promises.{mostSteps, unclean, firstUnclean, traceCheck, stepCheck, totalsValues, tracedRow, remembered, steppedRow}
+use Rattle.traces.specs.Traces.{stepSize, answerSize, count, stepBytes, steps}
+use Rattle.traces.specs.Traces.{mostSteps, unclean, firstUnclean, traceCheck, stepCheck}
+use Rattle.monitor.specs.Promises.{totalsValues, tracedRow, remembered, steppedRow}
 use Rattle.monitor.specs.Settled.{monitor-settled, traced-row-settled}
 
 -- a trace that passes is whole steps, not too many, with room for the answers, and each step is clean

@@ -9,12 +9,13 @@ use lib.Dec.{eqb}
 use lib.ListN.{length, getD, take, drop, length-append}
 use lib.Seq.{getD-take, getD-drop, drop-at}
 use borrow.Author.Tests.{eqb-true, eqb-false}
-use Rattle.refusal.proofs.Tests.{cases}
+use Rattle.notions.proofs.Tests.{cases}
 use Rattle.layout.specs.declared.Layout.{Layout}
-use Rattle.rules.specs.declared.Step.{Step}
+use Rattle.steps.specs.declared.Step.{Step}
 use Rattle.effects.specs.Effects.{bytes}
 use Rattle.effects.proofs.Laws.{length-written}
-use Rattle.monitor.specs.Runs.{State, stepSize, answerSize, stepBytes, before, said, answers}
+use Rattle.monitor.specs.Runs.{State, before, said, answers}
+use Rattle.traces.specs.Traces.{stepSize, answerSize, stepBytes}
 
 -- byte j of step n
 pub step-byte : (b : List ℕ) (n j : ℕ) → j < stepSize → getD (stepBytes b n) j 0 ≡ getD b (stepSize * n + j) 0

@@ -3,8 +3,8 @@ use mathlib.Core.Path.{_≡_, refl}
 use Prim.Native.Nat.{ℕ, zero, suc, _<_}
 use native.Mathlib.Omega.{arith}
 use Rattle.layout.specs.declared.Layout.{Layout}
-use Rattle.rules.specs.declared.Step.{Step}
-use Rattle.rules.specs.Rules.{resets}
+use Rattle.steps.specs.declared.Step.{Step}
+use Rattle.monitor.specs.Decisions.{resets}
 use Rattle.monitor.specs.Runs.{State, before, said, answers, resetting}
 
 -- a step of two runs at which the same stands and the same is done

@@ -8,18 +8,20 @@ use native.Mathlib.Numerals.{add-one}
 use lib.Dec.{eqb}
 use lib.ListN.{length, take, drop}
 use lib.Seq.{take-at, drop-at, drop-drop}
-use Rattle.refusal.specs.Choice.{pick}
+use Rattle.notions.specs.Choice.{pick}
 use Rattle.layout.specs.declared.Layout.{Layout}
-use Rattle.rules.specs.declared.Step.{Step}
+use Rattle.steps.specs.declared.Step.{Step}
 use Rattle.rules.specs.declared.Monitor.{Monitor}
-use Rattle.rules.specs.Rules.{cause, resets, start}
+use Rattle.rules.specs.Rules.{cause, start}
+use Rattle.monitor.specs.Decisions.{resets}
 use Rattle.effects.specs.declared.StepAnswer.{StepAnswer}
 use Rattle.monitor.specs.declared.Totals.{Totals}
 use Rattle.effects.specs.declared.Judged.{Judged}
 use Rattle.effects.specs.Effects.{answer, bytes}
 use Rattle.effects.specs.Promises.{Acts}
 use Rattle.effects.proofs.Laws.{answer-cause}
-use Rattle.monitor.specs.Runs.{count, steps, begin, before, said, answers, resetting, memoryAfter, roomAfter, totals}
+use Rattle.traces.specs.Traces.{count, steps}
+use Rattle.monitor.specs.Runs.{begin, before, said, answers, resetting, memoryAfter, roomAfter, totals}
 use Rattle.monitor.proofs.Laws.{length-answers}
 
 pub record After (l : Layout) (b memory₀ room₀ : List ℕ) (i : ℕ) (memory room : List ℕ) (m : Monitor) (r : ℕ) : Type 0 where

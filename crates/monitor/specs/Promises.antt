@@ -5,8 +5,8 @@ use mathlib.Core.List.{List, [], _∷_, _++_}
 use Prim.Native.Nat.{ℕ, _*_, _%_}
 use lib.Dec.{eqb, ltb}
 use lib.ListN.{length, drop, replicate}
-use Rattle.refusal.specs.Choice.{pick}
-use Rattle.refusal.specs.First.{first}
+use Rattle.notions.specs.Choice.{pick}
+use Rattle.notions.specs.First.{first}
 use Rattle.refusal.specs.Answers as A
 use Rattle.refusal.specs.Answers.{refusedAt, told, lent}
 use Rattle.refusal.specs.Numbers.{memorySize, traceSize, roomSize, stepNotZero}
@@ -16,15 +16,16 @@ use Rattle.layout.specs.declared.Layout.{Layout}
 use Rattle.layout.specs.Layouts.{layoutOf}
 use Rattle.layout.specs.Calls.{memoryBytes, callCheck}
 use Rattle.rules.specs.declared.Monitor.{Monitor}
-use Rattle.rules.specs.Steps.{clean}
-use Rattle.rules.specs.Rules.{next}
+use Rattle.steps.specs.Steps.{clean}
+use Rattle.monitor.specs.Decisions.{next}
 use Rattle.monitor.specs.declared.Totals.{Totals}
 use Rattle.monitor.specs.declared.Stepped.{Stepped}
 use Rattle.monitor.specs.declared.Stepped.the-variants as stepped
 use Rattle.monitor.specs.declared.Traced.{Traced}
 use Rattle.monitor.specs.declared.Traced.the-variants as traced
 use Rattle.effects.specs.Effects.{bytes, written, answer}
-use Rattle.monitor.specs.Runs.{stepSize, answerSize, count, stepBytes, steps, memoryAfter, roomAfter, totals}
+use Rattle.traces.specs.Traces.{stepSize, answerSize, count, stepBytes, steps}
+use Rattle.monitor.specs.Runs.{memoryAfter, roomAfter, totals}
 
 -- ---- refusals
 

@@ -2,12 +2,13 @@
 use mathlib.Core.List.{List, [], _++_}
 use Prim.Native.Nat.{ℕ, zero, suc, _+_, _*_, _/_}
 use lib.ListN.{length, take, drop}
-use Rattle.refusal.specs.Choice.{pick}
+use Rattle.notions.specs.Choice.{pick}
 use Rattle.layout.specs.declared.Layout.{Layout}
-use Rattle.rules.specs.declared.Step.{Step}
+use Rattle.steps.specs.declared.Step.{Step}
 use Rattle.rules.specs.declared.Monitor.{Monitor}
-use Rattle.rules.specs.Steps.{stepOf}
-use Rattle.rules.specs.Rules.{resets, start, next}
+use Rattle.steps.specs.Steps.{stepOf}
+use Rattle.monitor.specs.Decisions.{resets, next}
+use Rattle.rules.specs.Rules.{start}
 use Rattle.effects.specs.declared.StepAnswer.{StepAnswer}
 use Rattle.monitor.specs.declared.Totals.{Totals}
 use Rattle.effects.specs.Effects.{answer, bytes, written}

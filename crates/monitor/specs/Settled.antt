@@ -4,7 +4,8 @@ use mathlib.Core.Bool.{Bool}
 use mathlib.Core.List.{List}
 use Prim.Native.Nat.{ℕ}
 use native.Mathlib.Omega.{arith}
-use Rattle.refusal.specs.Settled.{row-settled, flag-settled}
+use Rattle.refusal.specs.Settled.{row-settled}
+use Rattle.notions.specs.Settled.{flag-settled}
 use Rattle.refusal.specs.declared.Answer.{Answer}
 use Rattle.refusal.specs.declared.Answer.the-variants as call
 use Rattle.layout.specs.declared.Layout.{Layout}
@@ -13,7 +14,8 @@ use Rattle.monitor.specs.declared.Stepped.{Stepped}
 use Rattle.monitor.specs.declared.Stepped.the-variants as stepped
 use Rattle.monitor.specs.declared.Traced.{Traced}
 use Rattle.monitor.specs.declared.Traced.the-variants as traced
-use Rattle.monitor.specs.Promises.{remembered, tracedRow, steppedRow, Traces, Steps, Fits, GivesRecord, Runs}
+use Rattle.monitor.specs.Promises.{remembered, tracedRow, steppedRow, Traces, Steps, Runs}
+use Rattle.traces.specs.Promises.{Fits, GivesRecord}
 
 -- ---- an answer's row settles the answer
 

@@ -10,7 +10,7 @@ ghost use mathlib.Core.Path.{_≡_};
 ghost use mathlib.Core.List.{_++_};
 ghost use Prim.Native.Nat.{_+_, _*_, _/_, _≤_, _<_};
 ghost use lib.ListN.{length, take, drop};
-ghost use Rattle.refusal.specs.Choice.{pick};
+ghost use Rattle.notions.specs.Choice.{pick};
 ghost use Rattle.refusal.specs.Answers.{row};
 ghost use Rattle.effects.specs.Effects as E;
 ghost use Rattle.effects.specs.Promises.{Acts};
@@ -82,7 +82,7 @@ fn first_unclean(b: &[u8]) -> usize
     let n = b.len() / STEP;
     let mut k: usize = 0;
     while k < n {
-        if !rules::clean(step_bytes(b, k)) {
+        if !steps::clean(step_bytes(b, k)) {
             return k;
         }
         k += 1;
@@ -109,7 +109,7 @@ fn run_step(
     ensures { λ r. ⌜ Acts l m (R.steps (now (trace .entry)) i) (now (memory .entry)) (now (memory .exit)) r
         × (now (room .exit) ≡ take (R.answerSize * i) (now (room .entry)) ++ E.bytes (r .answer) ++ drop (R.answerSize * i + R.answerSize) (now (room .entry))) ⌝ }
 {
-    let s = rules::decode(step_bytes(trace, i));
+    let s = steps::decode(step_bytes(trace, i));
     let j = effects::judge(l, m, s, memory);
     put_answer(room, ANSWER * i, j.answer);
     j

@@ -5,7 +5,7 @@ use native.Mathlib.Nat.{pow-le-pow-right}
 use native.Mathlib.Omega.{arith}
 use lib.Dec.{ltb}
 use borrow.Author.Tests.{ltb-true, ltb-false}
-use Rattle.refusal.proofs.Tests.{cases}
+use Rattle.notions.proofs.Tests.{cases}
 
 -- k digits are at least two, and more only where the number takes them
 pub two-digits : (n k : ℕ) → n < 256 → 2 ≤ k → (2 < k → 16 ^ (k - 1) ≤ n) → k ≡ 2

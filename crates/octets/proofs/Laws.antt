@@ -6,8 +6,8 @@ use native.Mathlib.Nat.{add-zero, pow-succ'}
 use native.Mathlib.Omega.{arith}
 use lib.ListN.{length, getD, take, drop}
 use lib.Seq.{getD-drop, length-take-le}
-use Rattle.refusal.specs.Bytes.{Bytes}
-use Rattle.refusal.proofs.Bytes.{bytes-take}
+use Rattle.notions.specs.Bytes.{Bytes}
+use Rattle.notions.proofs.Bytes.{bytes-take}
 use Rattle.octets.specs.Numbers.{number, little, word}
 use Rattle.octets.specs.Back.{BytesBack, NumberBack, WordNumber}
 

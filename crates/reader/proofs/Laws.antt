@@ -5,12 +5,13 @@ use mathlib.Core.List.{List}
 use Prim.Native.Nat.{ℕ, _≤_, _<_}
 use lib.Dec.{leb}
 use borrow.Author.Tests.{le-leb, lt-leb, lt-ltb, leb-false}
-use Rattle.refusal.specs.Choice.{pick}
+use Rattle.notions.specs.Choice.{pick}
 use Rattle.refusal.specs.Numbers.{traceSize, stepNotZero}
 use Rattle.refusal.specs.declared.Refusal.{Refusal}
-use Rattle.rules.specs.declared.Step.{Step}
-use Rattle.monitor.specs.Runs.{count, stepBytes, steps}
-use Rattle.monitor.specs.Promises.{misfits, unclean, GivesRecord}
+use Rattle.steps.specs.declared.Step.{Step}
+use Rattle.traces.specs.Traces.{count, stepBytes, steps}
+use Rattle.traces.specs.Traces.{misfits, unclean}
+use Rattle.traces.specs.Promises.{GivesRecord}
 use Rattle.reader.specs.declared.Read.{Read}
 use Rattle.reader.specs.declared.Read.the-variants as read
 use Rattle.reader.specs.Reading.{refusedAt, readAt, placeAfter}

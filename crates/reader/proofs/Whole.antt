@@ -11,25 +11,28 @@ use lib.ListN.{length, drop}
 use denote.Ref.{RefT, now}
 use borrow.Author.Tests.{ltb-true, ltb-false}
 use Rattle.refusal.specs.declared.Answer.the-variants as call
-use Rattle.refusal.proofs.Tests.{cases}
-use Rattle.refusal.proofs.First.{first-found, first-least}
+use Rattle.notions.proofs.Tests.{cases}
+use Rattle.notions.proofs.First.{first-found, first-least}
 use Rattle.refusal.proofs.Order.{done-passed}
 use Rattle.layout.specs.Layouts.{layoutOf}
 use Rattle.layout.specs.Calls.{callCheck}
 use Rattle.layout.proofs.Calls.{call-passed}
-use Rattle.rules.specs.declared.Step.{Step}
+use Rattle.steps.specs.declared.Step.{Step}
 use Rattle.monitor.specs.declared.Totals.{Totals}
 use Rattle.monitor.specs.declared.Traced.the-variants as traced
-use Rattle.monitor.specs.Runs.{State, answerSize, count, steps, begin, before, answers, resetting, totals}
-use Rattle.monitor.specs.Promises.{misfits, unclean, firstUnclean, traceCheck, Traces}
-use Rattle.monitor.proofs.Checks.{trace-passed, traced-judged}
+use Rattle.monitor.specs.Runs.{State, begin, before, answers, resetting, totals}
+use Rattle.traces.specs.Traces.{answerSize, count, steps}
+use Rattle.traces.specs.Traces.{misfits, unclean, firstUnclean, traceCheck}
+use Rattle.monitor.specs.Promises.{Traces}
+use Rattle.traces.proofs.Checks.{trace-passed}
+use Rattle.monitor.proofs.Checks.{traced-judged}
 use Rattle.monitor.proofs.Runs.{alike}
 use Rattle.reader.specs.declared.Read.{Read}
 use Rattle.reader.specs.declared.Read.the-variants as read
 use Rattle.reader.specs.declared.StepReader.{StepReader}
 use Rattle.reader.specs.Reading.{readAt, placeAfter}
 use Rattle.reader.specs.Settled.{read-row-settled}
-use Rattle.reader.specs.Whole.{Reading, HandsOut, CanBeRead, ReadsWhole, JudgesWhatIsRead, ReadsToUnclean, ReadsNothing}
+use Rattle.claims_reading.specs.Whole.{Reading, HandsOut, CanBeRead, ReadsWhole, JudgesWhatIsRead, ReadsToUnclean, ReadsNothing}
 use Rattle.reader.proofs.Laws.{read-nothing, read-end, read-unclean, read-step, IsStep}
 
 -- ---- a reader that is read over and over

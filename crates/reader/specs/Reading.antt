@@ -2,13 +2,13 @@
 use mathlib.Core.List.{List, [], _∷_}
 use Prim.Native.Nat.{ℕ, _+_}
 use lib.Dec.{leb}
-use Rattle.refusal.specs.Choice.{pick}
+use Rattle.notions.specs.Choice.{pick}
 use Rattle.refusal.specs.Answers as A
 use Rattle.refusal.specs.Numbers.{traceSize, stepNotZero}
 use Rattle.refusal.specs.declared.Answer.the-variants as call
-use Rattle.rules.specs.declared.Step.{Step}
-use Rattle.monitor.specs.Runs.{count, steps}
-use Rattle.monitor.specs.Promises.{misfits, unclean}
+use Rattle.steps.specs.declared.Step.{Step}
+use Rattle.traces.specs.Traces.{count, steps}
+use Rattle.traces.specs.Traces.{misfits, unclean}
 use Rattle.reader.specs.declared.Read.{Read}
 use Rattle.reader.specs.declared.Read.the-variants as read
 

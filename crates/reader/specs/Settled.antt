@@ -5,9 +5,10 @@ use Prim.Native.Nat.{ℕ}
 use native.Mathlib.Omega.{arith}
 use lib.ListN.{length}
 use denote.Ref.{RefT}
-use Rattle.refusal.specs.Settled.{row-settled, flag-settled}
+use Rattle.refusal.specs.Settled.{row-settled}
+use Rattle.notions.specs.Settled.{flag-settled}
 use Rattle.refusal.specs.declared.Answer.the-variants as call
-use Rattle.rules.specs.declared.Step.{Step}
+use Rattle.steps.specs.declared.Step.{Step}
 use Rattle.reader.specs.declared.Read.{Read}
 use Rattle.reader.specs.declared.Read.the-variants as read
 use Rattle.reader.specs.declared.Advance.{Advance}

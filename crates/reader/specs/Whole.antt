@@ -8,11 +8,13 @@ use lib.ListN.{drop}
 use denote.Ref.{RefT, now}
 use Rattle.refusal.specs.Numbers.{traceSize, stepNotZero}
 use Rattle.layout.specs.Layouts.{layoutOf}
-use Rattle.rules.specs.declared.Step.{Step}
+use Rattle.steps.specs.declared.Step.{Step}
 use Rattle.monitor.specs.declared.Totals.{Totals}
 use Rattle.monitor.specs.declared.Traced.the-variants as traced
-use Rattle.monitor.specs.Runs.{answerSize, count, steps, begin, before, answers, resetting}
-use Rattle.monitor.specs.Promises.{misfits, firstUnclean, Traces}
+use Rattle.traces.specs.Traces.{answerSize, count, steps}
+use Rattle.monitor.specs.Runs.{begin, before, answers, resetting}
+use Rattle.traces.specs.Traces.{misfits, firstUnclean}
+use Rattle.monitor.specs.Promises.{Traces}
 use Rattle.reader.specs.declared.Read.{Read}
 use Rattle.reader.specs.declared.Read.the-variants as read
 use Rattle.reader.specs.declared.StepReader.{StepReader}

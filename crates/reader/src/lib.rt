@@ -1,7 +1,7 @@
 // A reader of a trace: it holds the trace's bytes and the number of the step that is next.
 // The functions over it are thin. What they answer is worked out by `read_on`, on the bytes and the number.
 use refusal::Refusal;
-use rules::Step;
+use steps::Step;
 ghost use Rattle.reader.specs.Promises as P;
 
 pub struct StepReader<'a> {
@@ -26,8 +26,8 @@ pub struct Advance {
 pub fn step_at(trace: &[u8], place: usize) -> Read
     ensures { λ r. ⌜ P.ReadsAt (now (trace .entry)) place r ⌝ }
 {
-    let steps = trace.len() / monitor::STEP;
-    if (trace.len() % monitor::STEP != 0) | (monitor::MOST_STEPS < steps) {
+    let steps = trace.len() / traces::STEP;
+    if (trace.len() % traces::STEP != 0) | (traces::MOST_STEPS < steps) {
         return Read::Refused(Refusal {
             number: refusal::TRACE_SIZE,
             place: 0,
@@ -36,14 +36,14 @@ pub fn step_at(trace: &[u8], place: usize) -> Read
     if steps <= place {
         return Read::End;
     }
-    let bytes = monitor::step_record(trace, place);
-    if !rules::clean(bytes) {
+    let bytes = traces::step_record(trace, place);
+    if !steps::clean(bytes) {
         return Read::Refused(Refusal {
             number: refusal::STEP_NOT_ZERO,
             place,
         });
     }
-    Read::Step(rules::decode(bytes))
+    Read::Step(steps::decode(bytes))
 }
 
 // Only handing out a step moves the place.

@@ -11,7 +11,7 @@ use Rattle.monitor.specs.declared.Traced.{Traced}
 use Rattle.monitor.specs.declared.Traced.the-variants as traced
 use Rattle.monitor.specs.Promises.{totalsValues, tracedRow}
 use Rattle.monitor.specs.Settled.{traced-row-settled}
-use Rattle.monitor.proofs.Checks.{trace-passed}
+use Rattle.traces.proofs.Checks.{trace-passed}
 use Rattle.runfile.specs.Promises.{fileLayout, fileMemory, fileTrace, fileTotals, judgeCheck, Judges}
 use Rattle.runfile.proofs.Files.{admitted}
 use Rattle.report.specs.Text.{fileText}

@@ -11,9 +11,9 @@ use lib.Dec.{ltb, leb}
 use lib.ListN.{length, length-append}
 use borrow.Author.Tests.{lt-ltb, le-ltb, leb-true, leb-false, ltb-true, ltb-false}
 use Rattle.io.specs.Digits.{digits, Fewest}
-use Rattle.refusal.specs.First.{first}
-use Rattle.refusal.proofs.Tests.{cases}
-use Rattle.refusal.proofs.First.{first-most, first-least, first-is, first-none}
+use Rattle.notions.specs.First.{first}
+use Rattle.notions.proofs.Tests.{cases}
+use Rattle.notions.proofs.First.{first-most, first-least, first-is, first-none}
 use Rattle.report.specs.Text.{places, decimal}
 use Rattle.report.specs.Inner.{Wrote}
 

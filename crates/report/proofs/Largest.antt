@@ -9,21 +9,23 @@ use lib.Dec.{ltb, eqb}
 use lib.ListN.{length, take, drop, length-append, length-take, length-drop}
 use lib.Seq.{take-all, take-at}
 use borrow.Author.Tests.{ltb-true, ltb-false}
-use Rattle.refusal.specs.Choice.{pick}
-use Rattle.refusal.specs.First.{first}
+use Rattle.notions.specs.Choice.{pick}
+use Rattle.notions.specs.First.{first}
 use Rattle.refusal.specs.declared.Refusal.{Refusal}
 use Rattle.refusal.specs.declared.Answer.{Answer}
 use Rattle.refusal.specs.declared.Answer.the-variants.{Done, Refused}
-use Rattle.refusal.proofs.Tests.{cases}
-use Rattle.refusal.proofs.First.{first-most}
+use Rattle.notions.proofs.Tests.{cases}
+use Rattle.notions.proofs.First.{first-most}
 use Rattle.layout.specs.declared.Layout.{Layout}
-use Rattle.rules.specs.declared.Step.{Step}
+use Rattle.steps.specs.declared.Step.{Step}
 use Rattle.rules.specs.declared.Monitor.{Monitor}
-use Rattle.rules.specs.Rules.{rule15, broken, numbered, cause, resets}
+use Rattle.rules.specs.Rules.{rule15, broken, numbered, cause}
+use Rattle.monitor.specs.Decisions.{resets}
 use Rattle.effects.specs.declared.StepAnswer.{StepAnswer}
 use Rattle.monitor.specs.declared.Totals.{Totals}
 use Rattle.effects.specs.Effects.{exposing, answer}
-use Rattle.monitor.specs.Runs.{State, count, begin, before, steps, said, resetting}
+use Rattle.monitor.specs.Runs.{State, begin, before, said, resetting}
+use Rattle.traces.specs.Traces.{count, steps}
 use Rattle.runfile.specs.Contents.{fileCheck, body}
 use Rattle.runfile.specs.Promises.{fileLayout, fileMemory, fileTrace, fileTotals, judgeCheck}
 use Rattle.runfile.proofs.Entries.{sound}

@@ -10,13 +10,14 @@ use Rattle.refusal.specs.Answers.{told, lent}
 use Rattle.refusal.specs.declared.Answer.{Answer}
 use Rattle.refusal.specs.declared.Answer.the-variants as call
 use Rattle.layout.specs.declared.Layout.{Layout}
-use Rattle.rules.specs.declared.Step.{Step}
+use Rattle.steps.specs.declared.Step.{Step}
 use Rattle.effects.specs.declared.StepAnswer.{StepAnswer}
 use Rattle.monitor.specs.declared.Totals.{Totals}
 use Rattle.monitor.specs.declared.Traced.{Traced}
 use Rattle.monitor.specs.declared.Traced.the-variants as traced
 use Rattle.effects.specs.Effects.{bytes}
-use Rattle.monitor.specs.Runs.{State, answerSize, count, begin, steps, said, answers, roomAfter, totals}
+use Rattle.monitor.specs.Runs.{State, begin, said, answers, roomAfter, totals}
+use Rattle.traces.specs.Traces.{answerSize, count, steps}
 use Rattle.monitor.specs.Promises.{totalsValues, tracedRow}
 use Rattle.monitor.specs.Settled.{traced-row-settled}
 use Rattle.monitor.proofs.Laws.{answer-at}

@@ -6,8 +6,8 @@ use Rattle.refusal.specs.declared.Refusal.{Refusal}
 use Rattle.monitor.specs.declared.Totals.{Totals}
 use Rattle.monitor.specs.declared.Traced.{Traced}
 use Rattle.monitor.specs.declared.Traced.the-variants.{Judged, Refused}
-use Rattle.monitor.specs.Runs.{answerSize}
-use Rattle.monitor.specs.Promises.{mostSteps}
+use Rattle.traces.specs.Traces.{answerSize}
+use Rattle.traces.specs.Traces.{mostSteps}
 use Rattle.report.specs.Text.{header, lines, totalsLine, refusedLine, judgedText}
 use Rattle.report.specs.Inner.{Wrote, answerAt, textOf, Tellable}
 use Rattle.report.proofs.Lay.{then}

@@ -7,8 +7,8 @@ use lib.Seq.{sets}
 use Rattle.effects.specs.declared.StepAnswer.{StepAnswer}
 use Rattle.monitor.specs.declared.Traced.{Traced}
 use Rattle.monitor.specs.declared.Traced.the-variants.{Judged, Refused}
-use Rattle.monitor.specs.Runs.{answerSize}
-use Rattle.monitor.specs.Promises.{mostSteps}
+use Rattle.traces.specs.Traces.{answerSize}
+use Rattle.traces.specs.Traces.{mostSteps}
 use Rattle.report.specs.Text.{judgedText, refusedLine}
 
 -- a text is laid into a buffer from a place on, as far as it fits, and r is the place behind it

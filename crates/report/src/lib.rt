@@ -89,7 +89,7 @@ fn answer_at(room: &[u8], k: usize) -> StepAnswer
     requires { ⌜ R.answerSize * k + R.answerSize ≤ length (now room) ⌝ }
     ensures { λ r. ⌜ r ≡ W.answerAt (now (room .entry)) k ⌝ }
 {
-    let p = monitor::ANSWER * k;
+    let p = traces::ANSWER * k;
     StepAnswer {
         cause: room[p],
         exposed: room[p + 1],

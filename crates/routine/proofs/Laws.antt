@@ -7,11 +7,11 @@ use Prim.Native.Nat.{ℕ, _≤_}
 use native.Mathlib.Omega.{arith}
 use borrow.Author.Tests.{not-false}
 use lib.ListN.{length}
-use Rattle.refusal.specs.Bytes.{Bytes}
+use Rattle.notions.specs.Bytes.{Bytes}
 use Rattle.refusal.specs.Answers.{refusedAt}
 use Rattle.refusal.specs.Numbers.{challengeNotGreater, tokenDiffers}
 use Rattle.refusal.specs.declared.Answer.the-variants.{Done}
-use Rattle.refusal.proofs.Tests.{untrue}
+use Rattle.notions.proofs.Tests.{untrue}
 use Rattle.refusal.proofs.Order.{done-passed, Refuses, refuses-none, refuses-test}
 use Rattle.hmac.specs.Hmac.{hmac}
 use Rattle.hmac.proofs.Laws.{length-hmac, bytes-hmac}

@@ -10,8 +10,8 @@ use native.Mathlib.Nat.{pow-zero, pow-suc, suc-mul, mul-le-mul-right, le-of-lt, 
 use borrow.Author.Tests.{eqb-true, eqb-false, eq-eqb, ne-eqb, ltb-true, ltb-false, lt-ltb, le-ltb}
 use lib.Dec.{ltb, eqb}
 use lib.ListN.{length}
-use Rattle.refusal.specs.Bytes.{Bytes}
-use Rattle.refusal.proofs.Tests.{cases, both, clash}
+use Rattle.notions.specs.Bytes.{Bytes}
+use Rattle.notions.proofs.Tests.{cases, both, clash}
 use Rattle.routine.specs.Strings.{greater, same, weight}
 
 -- ---- `same`

@@ -7,7 +7,7 @@ use Rattle.refusal.specs.Answers.{row, refusedWith}
 use Rattle.refusal.specs.Numbers.{challengeNotGreater, tokenDiffers, lengthOrTotal}
 use Rattle.refusal.specs.declared.Answer.{Answer}
 use Rattle.refusal.specs.declared.Answer.the-variants.{Done}
-use Rattle.refusal.proofs.Tests.{neither}
+use Rattle.notions.proofs.Tests.{neither}
 use Rattle.sha256.specs.declared.Digest.{Digest}
 use Rattle.sha256.specs.Promises.{Gives}
 use Rattle.sha256.proofs.Laws.{gives-bytes}

@@ -10,7 +10,7 @@ use lib.Bits.{bitOr, bitXor, or-add-and, xor-add-and, and-le-l, and-le-r, xor-se
 use lib.Dec.{ltb, eqb}
 use lib.ListN.{length, getD, drop, drop-of-length-le}
 use lib.Seq.{drop-cons, drop-length}
-use Rattle.refusal.proofs.Tests.{cases}
+use Rattle.notions.proofs.Tests.{cases}
 use Rattle.routine.specs.Strings.{greater, same}
 use Rattle.routine.proofs.Order.{same-equal}
 

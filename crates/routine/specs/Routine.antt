@@ -2,7 +2,7 @@
 use mathlib.Core.Bool.{not}
 use mathlib.Core.List.{List}
 use Prim.Native.Nat.{ℕ}
-use Rattle.refusal.specs.Choice.{pick}
+use Rattle.notions.specs.Choice.{pick}
 use Rattle.refusal.specs.Answers.{refusedAt}
 use Rattle.refusal.specs.Numbers.{challengeNotGreater, tokenDiffers}
 use Rattle.refusal.specs.declared.Answer.{Answer}

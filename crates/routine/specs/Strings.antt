@@ -4,7 +4,7 @@ use mathlib.Core.List.{List, [], _∷_}
 use Prim.Native.Nat.{ℕ, _+_, _*_, _^_}
 use lib.Dec.{eqb, ltb}
 use lib.ListN.{length}
-use Rattle.refusal.specs.Choice.{pick}
+use Rattle.notions.specs.Choice.{pick}
 
 -- a and b are the same string
 unfoldable pub same : List ℕ → List ℕ → Bool

@@ -1,3 +1,4 @@
-pub mod Steps
 pub mod Rules
 pub mod Promises
+pub mod Settled
+pub mod Inner

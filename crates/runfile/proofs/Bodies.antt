@@ -17,9 +17,11 @@ use Rattle.layout.specs.Promises.{Admits}
 use Rattle.layout.proofs.Calls.{call-passed, admitted-good, admitted-refused}
 use Rattle.monitor.specs.declared.Traced.{Traced}
 use Rattle.monitor.specs.declared.Traced.the-variants as traced
-use Rattle.monitor.specs.Runs.{answerSize, count}
-use Rattle.monitor.specs.Promises.{traceCheck, Fits, Runs}
-use Rattle.monitor.proofs.Checks.{trace-passed}
+use Rattle.traces.specs.Traces.{answerSize, count}
+use Rattle.traces.specs.Traces.{traceCheck}
+use Rattle.traces.specs.Promises.{Fits}
+use Rattle.monitor.specs.Promises.{Runs}
+use Rattle.traces.proofs.Checks.{trace-passed}
 use Rattle.monitor.proofs.Calls.{run-passes}
 use Rattle.runfile.specs.Segments.{segmentCheck, described}
 use Rattle.runfile.specs.Promises.{bodiesCheck}

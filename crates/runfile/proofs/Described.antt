@@ -13,8 +13,8 @@ use lib.Seq.{length-paste, getD-drop}
 use borrow.Author.Tests.{ltb-false, eqb-false}
 use Rattle.refusal.specs.Numbers.{segment}
 use Rattle.refusal.specs.declared.Answer.the-variants.{Done}
-use Rattle.refusal.proofs.Tests.{neither}
-use Rattle.refusal.proofs.First.{first-most, none-found}
+use Rattle.notions.proofs.Tests.{neither}
+use Rattle.notions.proofs.First.{first-most, none-found}
 use Rattle.refusal.proofs.Order.{done-passed}
 use Rattle.octets.specs.Numbers.{word}
 use Rattle.layout.specs.Calls.{memoryBytes}

@@ -9,11 +9,11 @@ use native.Mathlib.Omega.{arith}
 use lib.Dec.{eqb, ltb}
 use lib.ListN.{length, take, drop, length-take, length-drop}
 use borrow.Author.Tests.{ltb-true, ltb-false, lt-ltb, le-ltb, eqb-true, not-false}
-use Rattle.refusal.specs.First.{first}
+use Rattle.notions.specs.First.{first}
 use Rattle.refusal.specs.Numbers.{contents}
 use Rattle.refusal.specs.declared.Answer.the-variants.{Done}
-use Rattle.refusal.proofs.Tests.{cases, neither}
-use Rattle.refusal.proofs.First.{Passed, passed-zero, passed-more, passed-found, passed-all, none-found}
+use Rattle.notions.proofs.Tests.{cases, neither}
+use Rattle.notions.proofs.First.{Passed, passed-zero, passed-more, passed-found, passed-all, none-found}
 use Rattle.refusal.proofs.Order.{done-passed}
 use Rattle.layout.specs.Layouts.{layoutBytes}
 use Rattle.runfile.specs.Contents.{mostBytes, contentsSize, entries, LAYOUT, MEMORY, TRACE, offset, size, begins, failsFrom}

@@ -15,7 +15,7 @@ use Rattle.layout.specs.Calls.{memoryBytes}
 use Rattle.layout.proofs.Calls.{call-passed}
 use Rattle.monitor.specs.declared.Traced.{Traced}
 use Rattle.monitor.specs.declared.Traced.the-variants as traced
-use Rattle.monitor.specs.Promises.{traceCheck}
+use Rattle.traces.specs.Traces.{traceCheck}
 use Rattle.runfile.specs.Contents.{LAYOUT, MEMORY, TRACE, fileCheck, body}
 use Rattle.runfile.specs.Segments.{segmentCheck}
 use Rattle.runfile.specs.Promises.{bodiesCheck, judgeCheck, Judges}

@@ -12,12 +12,12 @@ use lib.ListN.{length, drop, replicate}
 use lib.Seq.{paste}
 use borrow.Author.Count.{below-none, below-more}
 use borrow.Author.Tests.{ltb-true, ltb-false, leb-true, lt-ltb, le-ltb, le-leb, lt-leb}
-use Rattle.refusal.specs.First.{first}
+use Rattle.notions.specs.First.{first}
 use Rattle.refusal.specs.Answers.{refusedAt}
 use Rattle.refusal.specs.Numbers.{segment}
 use Rattle.refusal.specs.declared.Answer.the-variants.{Done}
-use Rattle.refusal.proofs.Tests.{cases}
-use Rattle.refusal.proofs.First.{first-is, first-none, first-found, first-least, Passed, passed-zero, passed-more, passed-found, passed-all}
+use Rattle.notions.proofs.Tests.{cases}
+use Rattle.notions.proofs.First.{first-is, first-none, first-found, first-least, Passed, passed-zero, passed-more, passed-found, passed-all}
 use Rattle.layout.specs.Calls.{memoryBytes}
 use Rattle.runfile.specs.Segments.{headSize, startAt, sizeAt, place, reached, segments, failsAt, segmentFails, firstWrong, segmentCheck, image, described}
 use Rattle.runfile.proofs.Described.{Right, right}

@@ -5,8 +5,8 @@ use Prim.Native.Nat.{ℕ, zero, suc, _+_, _*_}
 use lib.Dec.{eqb, ltb}
 use lib.ListN.{length, take, drop}
 use Rattle.octets.specs.Numbers.{numberAt}
-use Rattle.refusal.specs.Choice.{pick}
-use Rattle.refusal.specs.First.{first}
+use Rattle.notions.specs.Choice.{pick}
+use Rattle.notions.specs.First.{first}
 use Rattle.refusal.specs.Answers.{refusedAt}
 use Rattle.refusal.specs.Numbers.{contents, fileSize}
 use Rattle.layout.specs.Layouts.{layoutBytes}

@@ -11,7 +11,8 @@ use Rattle.layout.specs.Calls.{callCheck}
 use Rattle.monitor.specs.declared.Totals.{Totals}
 use Rattle.monitor.specs.declared.Traced.{Traced}
 use Rattle.monitor.specs.Runs.{memoryAfter, roomAfter, totals}
-use Rattle.monitor.specs.Promises.{traceCheck, totalsValues, tracedRow}
+use Rattle.traces.specs.Traces.{traceCheck}
+use Rattle.monitor.specs.Promises.{totalsValues, tracedRow}
 use Rattle.runfile.specs.Contents.{LAYOUT, MEMORY, TRACE, fileCheck, body}
 use Rattle.runfile.specs.Segments.{segmentCheck, described}
 

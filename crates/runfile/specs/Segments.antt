@@ -5,8 +5,8 @@ use Prim.Native.Nat.{ℕ, zero, suc, _+_}
 use lib.Dec.{leb, ltb, eqb}
 use lib.ListN.{length, getD, drop, replicate}
 use lib.Seq.{paste}
-use Rattle.refusal.specs.Choice.{pick}
-use Rattle.refusal.specs.First.{first}
+use Rattle.notions.specs.Choice.{pick}
+use Rattle.notions.specs.First.{first}
 use Rattle.refusal.specs.Answers.{refusedAt}
 use Rattle.refusal.specs.Numbers.{segment}
 use Rattle.refusal.specs.declared.Answer.{Answer}

@@ -10,7 +10,7 @@ ghost use lib.Seq.{paste};
 ghost use Rattle.octets.specs.Numbers.{numberAt};
 ghost use Rattle.refusal.specs.Answers.{row, andThen};
 ghost use Rattle.layout.specs.Calls.{memoryBytes};
-ghost use Rattle.monitor.specs.Promises.{traceCheck};
+ghost use Rattle.traces.specs.Traces.{traceCheck};
 ghost use Rattle.runfile.specs.Contents as C;
 ghost use Rattle.runfile.specs.Segments as S;
 ghost use Rattle.runfile.specs.Promises as P;
@@ -139,7 +139,7 @@ fn check_bodies(body: &[u8], trace: &[u8], room: usize) -> Answer
     ensures { λ r. ⌜ row r ≡ row (andThen (S.segmentCheck (now (body .entry))) (traceCheck (now (trace .entry)) room)) ⌝ }
 {
     match check_segments(body) {
-        Answer::Done => monitor::fits(trace, room),
+        Answer::Done => traces::fits(trace, room),
         Answer::Refused(r) => Answer::Refused(r),
     }
 }

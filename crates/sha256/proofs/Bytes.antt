@@ -3,8 +3,8 @@ use mathlib.Core.List.{List}
 use Prim.Native.Nat.{ℕ, zero, suc, _*_, _/_, _%_, _^_, _<_}
 use native.Mathlib.Omega.{arith}
 use lib.ListN.{getD}
-use Rattle.refusal.specs.Bytes.{Bytes}
-use Rattle.refusal.proofs.Bytes.{bytes-append}
+use Rattle.notions.specs.Bytes.{Bytes}
+use Rattle.notions.proofs.Bytes.{bytes-append}
 use Rattle.sha256_block.specs.Words.{bytes}
 use Rattle.sha256_block.specs.Constants.{H}
 use Rattle.sha256_block.specs.Block.{whole}

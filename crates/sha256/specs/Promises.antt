@@ -8,7 +8,7 @@ use Prim.Native.Nat.{ℕ, _+_, _^_}
 use lib.Dec.{ltb, leb}
 use lib.ListN.{length, replicate}
 use Rattle.refusal.specs.Numbers.{lengthOrTotal}
-use Rattle.refusal.specs.Choice.{pick}
+use Rattle.notions.specs.Choice.{pick}
 use Rattle.refusal.specs.Answers.{row, refusedIf}
 use Rattle.sha256.specs.declared.Sha.{Sha}
 use Rattle.sha256.specs.declared.Taken.{Taken}

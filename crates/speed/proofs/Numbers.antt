@@ -11,7 +11,8 @@ use Rattle.layout.specs.Calls.{callCheck}
 use Rattle.board.specs.Promises.{Attests}
 use Rattle.monitor.specs.declared.Traced.{Traced}
 use Rattle.monitor.specs.Runs.{totals}
-use Rattle.monitor.specs.Promises.{totalsValues, tracedRow, traceCheck, Traces}
+use Rattle.monitor.specs.Promises.{totalsValues, tracedRow, Traces}
+use Rattle.traces.specs.Traces.{traceCheck}
 use Rattle.runfile.specs.Promises.{judgeCheck, fileTotals, Judges}
 use Rattle.speed.specs.Promises.{answerNumber, tracedNumber, NumbersAttest, NumbersTrace, Numbers}
 

@@ -5,7 +5,7 @@ use mathlib.Core.List.{List, _++_}
 use Prim.Native.Nat.{ℕ}
 use lib.Dec.{ltb}
 use lib.ListN.{length, getD, drop, replicate}
-use Rattle.refusal.specs.Choice.{pick}
+use Rattle.notions.specs.Choice.{pick}
 use Rattle.refusal.specs.Answers.{row, lent}
 use Rattle.refusal.specs.declared.Answer.{Answer}
 use Rattle.layout.specs.Layouts.{layoutOf}
@@ -17,7 +17,8 @@ use Rattle.hmac.specs.Promises.{long}
 use Rattle.board.specs.Attestation.{attestCheck, accepted}
 use Rattle.monitor.specs.declared.Traced.{Traced}
 use Rattle.monitor.specs.Runs.{memoryAfter, roomAfter}
-use Rattle.monitor.specs.Promises.{traceCheck, tracedRow}
+use Rattle.traces.specs.Traces.{traceCheck}
+use Rattle.monitor.specs.Promises.{tracedRow}
 use Rattle.runfile.specs.Promises.{judgeCheck, memoryLeft, roomLeft}
 
 -- the bytes that `hash` answers for the message m

@@ -8,7 +8,7 @@ use borrow.Author.Tests.{eqb-true, le-ltb, not-false}
 use lib.Dec.{eqb, ltb}
 use lib.ListN.{length}
 use Rattle.refusal.specs.Numbers.{lengthOrTotal}
-use Rattle.refusal.proofs.Tests.{neither}
+use Rattle.notions.proofs.Tests.{neither}
 use Rattle.sha256.specs.declared.Digest.{Digest}
 use Rattle.sha256.specs.Promises.{Gives}
 use Rattle.sha256.proofs.Laws.{gives-bytes}

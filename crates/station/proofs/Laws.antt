@@ -8,12 +8,12 @@ use native.Mathlib.Omega.{arith}
 use lib.Dec.{eqb, ltb}
 use lib.ListN.{length}
 use borrow.Author.Tests.{eqb-true, eqb-false, eq-eqb, ne-eqb, ltb-false, le-ltb, not-false}
-use Rattle.refusal.specs.Choice.{pick}
+use Rattle.notions.specs.Choice.{pick}
 use Rattle.refusal.specs.Answers.{refusedAt, told}
 use Rattle.refusal.specs.Numbers.{lengthOrTotal}
 use Rattle.refusal.specs.declared.Refusal.{Refusal}
 use Rattle.refusal.specs.declared.Answer.the-variants as call
-use Rattle.refusal.proofs.Tests.{neither, clash, untrue}
+use Rattle.notions.proofs.Tests.{neither, clash, untrue}
 use Rattle.routine.specs.Strings.{same}
 use Rattle.routine.specs.Routine.{reply}
 use Rattle.routine.proofs.Order.{same-equal, equal-same}

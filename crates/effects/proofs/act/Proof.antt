@@ -1,42 +1,27 @@
 -- `effects::act` meets its contract. Assumes nothing.
-use mathlib.Core.Path.{_∙_}
-use Rattle.effects.proofs.Quiet.{quiet}
 use borrow.Author.Needs.{needs}
+use borrow.Author.Tests.{eq-eqb, ne-eqb}
+use Rattle.effects.specs.Effects.{answer, written}
 use Rattle.effects.proofs.act.Statement.{statement}
 use Rattle.effects.proofs.act.Tie as tie
 
-holds-requires : tie.Need-holds-requires
-holds-requires c κs = search needs
-
-put-requires : tie.Need-put-requires
-put-requires c κs = search needs
+perform-requires : tie.Need-perform-requires
+perform-requires c κs = search needs
 
 same-length : tie.Need-same-length
 same-length c = search needs
 
 returns : tie.Need-returns
+unfolding answer written
 returns c =
-    let h = c .before .before .before .before .before .before .before .before .args in
-    let q = quiet (h .l) (h .s) (h .memory .now) _ (c .before .before .before .before .before .before .holds .ensures) (c .before .before .before .before .if1 .taken) in
-    (q .0, c .before .before .put .ensures ∙ q .1)
-
-access-requires : tie.Need-access-requires
-access-requires c κs = search needs
-
-same-length-2 : tie.Need-same-length-2
-same-length-2 c = search needs
+    let e = eq-eqb _ _ (c .before .before .before .before .if1 .taken) in
+    record { answered = simp e (c .before .before .perform .ensures .0); memory-left = simp e (c .before .before .perform .ensures .1) }
 
 returns-2 : tie.Need-returns-2
-returns-2 c = search needs
+unfolding answer written
+returns-2 c =
+    let e = ne-eqb _ _ (c .if1 .left) in
+    record { answered = simp e; memory-left = simp e }
 
 pub act-spec : {M : Type 1} → statement M
-act-spec =
-    tie.close
-    (tie.spec
-    holds-requires
-    put-requires
-    same-length
-    returns
-    access-requires
-    same-length-2
-    returns-2)
+act-spec = tie.close (tie.spec perform-requires same-length returns returns-2)

@@ -1,6 +1,6 @@
 -- `hmac::mac` meets its contract. Assumes nothing.
 use borrow.Author.Tests.{ltb-false}
-use Rattle.refusal.proofs.Tests.{neither}
+use Rattle.notions.proofs.Tests.{neither}
 use Rattle.sha256.proofs.Answers.{gives-refused, gives-given}
 use Rattle.hmac.specs.Promises.{long}
 use borrow.Author.Needs.{needs}

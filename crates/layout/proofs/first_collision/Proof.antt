@@ -5,7 +5,7 @@ use mathlib.Core.Bool.{_&&_}
 use native.Mathlib.Omega.{arith}
 use lib.Dec.{ltb}
 use Rattle.layout.specs.Layouts.{collide}
-use Rattle.refusal.proofs.First.{Passed, passed-zero, passed-more, passed-found, passed-all}
+use Rattle.notions.proofs.First.{Passed, passed-zero, passed-more, passed-found, passed-all}
 use Rattle.layout.proofs.first_collision.Statement.{statement}
 use Rattle.layout.proofs.first_collision.Tie as tie
 

@@ -5,7 +5,7 @@ use native.Mathlib.Omega.{arith}
 use borrow.Author.Tests.{lt-ltb, le-ltb}
 use Rattle.layout.specs.Regions.{reversed}
 use Rattle.layout.specs.Layouts.{region}
-use Rattle.refusal.proofs.First.{Passed, passed-zero, passed-more, passed-found, passed-all}
+use Rattle.notions.proofs.First.{Passed, passed-zero, passed-more, passed-found, passed-all}
 use Rattle.layout.proofs.first_reversed.Statement.{statement}
 use Rattle.layout.proofs.first_reversed.Tie as tie
 

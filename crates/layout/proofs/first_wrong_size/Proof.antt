@@ -3,7 +3,7 @@ use Prim.Native.Nat.{_-_}
 use mathlib.Core.Path.{ap, sym, _∙_}
 use native.Mathlib.Omega.{arith}
 use Rattle.layout.specs.Layouts.{region, wrongSize}
-use Rattle.refusal.proofs.First.{Passed, passed-zero, passed-more, passed-found, passed-all}
+use Rattle.notions.proofs.First.{Passed, passed-zero, passed-more, passed-found, passed-all}
 use Rattle.layout.proofs.first_wrong_size.Statement.{statement}
 use Rattle.layout.proofs.first_wrong_size.Tie as tie
 

@@ -4,10 +4,10 @@ use Prim.Native.Nat.{_-_}
 use mathlib.Core.Path.{_≡_, refl, ap, sym, _∙_}
 use mathlib.Core.Bool.{not}
 use native.Mathlib.Omega.{arith}
-use Rattle.refusal.proofs.First.{Passed, passed-zero, passed-more, passed-found, passed-all}
-use Rattle.rules.specs.Steps.{clean}
-use Rattle.monitor.specs.Runs.{count}
-use Rattle.monitor.specs.Promises.{unclean}
+use Rattle.notions.proofs.First.{Passed, passed-zero, passed-more, passed-found, passed-all}
+use Rattle.steps.specs.Steps.{clean}
+use Rattle.traces.specs.Traces.{count}
+use Rattle.traces.specs.Traces.{unclean}
 use Rattle.monitor.proofs.first_unclean.Statement.{statement}
 use Rattle.monitor.proofs.first_unclean.Tie as tie
 

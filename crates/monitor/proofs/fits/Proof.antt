@@ -2,7 +2,7 @@
 use borrow.Author.Needs.{needs}
 use mathlib.Core.Path.{sym, _∙_}
 use borrow.Author.Tests.{lt-ltb, le-ltb}
-use Rattle.monitor.specs.Promises.{traceCheck}
+use Rattle.traces.specs.Traces.{traceCheck}
 use Rattle.monitor.proofs.fits.Statement.{statement}
 use Rattle.monitor.proofs.fits.Tie as tie
 

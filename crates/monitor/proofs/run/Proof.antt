@@ -5,7 +5,7 @@ use mathlib.Core.Bool.{not}
 use native.Mathlib.Omega.{arith}
 use lib.Dec.{eqb}
 use lib.ListN.{length}
-use Rattle.monitor.specs.Runs.{count}
+use Rattle.traces.specs.Traces.{count}
 use Rattle.monitor.proofs.Turns.{After, none, more, one-most, whole}
 use Rattle.monitor.proofs.run.Statement.{statement}
 use Rattle.monitor.proofs.run.Tie as tie

@@ -2,7 +2,7 @@
 use borrow.Author.Needs.{needs}
 use mathlib.Core.Path.{ap, _∙_}
 use native.Mathlib.Omega.{arith}
-use Rattle.rules.specs.Steps.{stepOf}
+use Rattle.steps.specs.Steps.{stepOf}
 use Rattle.monitor.proofs.Turns.{acted}
 use Rattle.monitor.proofs.run_step.Statement.{statement}
 use Rattle.monitor.proofs.run_step.Tie as tie

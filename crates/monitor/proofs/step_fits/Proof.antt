@@ -3,8 +3,8 @@ use mathlib.Core.Path.{ap, _∙_}
 use borrow.Author.Needs.{needs}
 use borrow.Author.Tests.{ne-eqb}
 use Rattle.refusal.specs.Answers.{row}
-use Rattle.monitor.specs.Promises.{stepCheck}
-use Rattle.monitor.proofs.Checks.{step-checked}
+use Rattle.traces.specs.Traces.{stepCheck}
+use Rattle.traces.proofs.Checks.{step-checked}
 use Rattle.monitor.proofs.step_fits.Statement.{statement}
 use Rattle.monitor.proofs.step_fits.Tie as tie
 

@@ -2,7 +2,7 @@
 use borrow.Author.Needs.{needs}
 use mathlib.Core.Path.{sym, ap, _∙_}
 use mathlib.Core.Bool.{not}
-use Rattle.rules.specs.Steps.{clean, stepOf}
+use Rattle.steps.specs.Steps.{clean, stepOf}
 use Rattle.reader.specs.declared.Read.the-variants as read
 use Rattle.reader.specs.Reading.{readRow}
 use Rattle.reader.proofs.Laws.{read-nothing, read-end, read-unclean, read-step, record-there}

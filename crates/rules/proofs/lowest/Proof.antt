@@ -1,5 +1,5 @@
 -- `rules::lowest` meets its contract. Assumes nothing.
-use Rattle.refusal.specs.First.{first}
+use Rattle.notions.specs.First.{first}
 use Rattle.rules.proofs.lowest.Statement.{statement}
 use Rattle.rules.proofs.lowest.Tie as tie
 

@@ -5,9 +5,9 @@ use mathlib.Core.List.{List, [], _∷_}
 use Prim.Native.Nat.{ℕ, _+_, _/_, _%_, _^_, _<_}
 use lib.Dec.{eqb, ltb}
 use lib.ListN.{getD}
-use Rattle.refusal.specs.Choice.{pick}
+use Rattle.notions.specs.Choice.{pick}
 use Rattle.octets.specs.Numbers.{word}
-use Rattle.rules.specs.declared.Step.{Step}
+use Rattle.steps.specs.declared.Step.{Step}
 
 -- bit k of a byte is set
 abbrev pub bit : ℕ → ℕ → Bool
@@ -17,13 +17,13 @@ bit k x = eqb (x / 2 ^ k % 2) 1
 unfoldable pub stepOf : List ℕ → Step
 stepOf b = record {
   pc = word (getD b 0 0) (getD b 1 0);
-  cpu = word (getD b 2 0) (getD b 3 0);
-  dma = word (getD b 4 0) (getD b 5 0);
-  reads = bit 0 (getD b 6 0);
-  writes = bit 1 (getD b 6 0);
+  cpuaddress = word (getD b 2 0) (getD b 3 0);
+  dmaaddress = word (getD b 4 0) (getD b 5 0);
+  cpureads = bit 0 (getD b 6 0);
+  cpuwrites = bit 1 (getD b 6 0);
   interrupt = bit 2 (getD b 6 0);
-  active = bit 3 (getD b 6 0);
-  stores = bit 4 (getD b 6 0);
+  dmaactive = bit 3 (getD b 6 0);
+  dmawrites = bit 4 (getD b 6 0);
   cpudata = getD b 7 0;
   dmadata = getD b 8 0;
 }
@@ -34,19 +34,23 @@ clean b = ltb (getD b 6 0) 32 && eqb (getD b 9 0) 0 && eqb (getD b 10 0) 0 && eq
 
 -- the flags' byte, from bit 0 on
 abbrev pub flags : Step → ℕ
-flags s = pick (s .reads) 1 0 + pick (s .writes) 2 0 + pick (s .interrupt) 4 0 + pick (s .active) 8 0 + pick (s .stores) 16 0
+flags s =
+    pick (s .cpureads) 1 0 + pick (s .cpuwrites) 2 0 + pick (s .interrupt) 4 0 + pick (s .dmaactive) 8 0
+    + pick (s .dmawrites) 16 0
 
 -- the 12 bytes that a step stands for
 unfoldable pub encode : Step → List ℕ
 encode s =
-    s .pc % 256 ∷ s .pc / 256 % 256 ∷ s .cpu % 256 ∷ s .cpu / 256 % 256 ∷ s .dma % 256 ∷ s .dma / 256 % 256
+    s .pc % 256 ∷ s .pc / 256 % 256
+    ∷ s .cpuaddress % 256 ∷ s .cpuaddress / 256 % 256
+    ∷ s .dmaaddress % 256 ∷ s .dmaaddress / 256 % 256
     ∷ flags s ∷ s .cpudata ∷ s .dmadata ∷ 0 ∷ 0 ∷ 0 ∷ []
 
 -- its addresses have two bytes each
 pub record Addressed (s : Step) : Type 0 where
   pub pc : s .pc < 65536
-  pub cpu : s .cpu < 65536
-  pub dma : s .dma < 65536
+  pub cpuaddress : s .cpuaddress < 65536
+  pub dmaaddress : s .dmaaddress < 65536
 
 -- then these bytes tell it
 abbrev pub TellsStep : Type 0

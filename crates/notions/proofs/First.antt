@@ -6,8 +6,8 @@ use native.Mathlib.Nat.{not-suc-le-zero, le-of-suc-le-suc}
 use native.Mathlib.Omega.{arith}
 use lib.Dec.{ltb}
 use borrow.Author.Tests.{ltb-true, ltb-false, le-ltb}
-use Rattle.refusal.specs.First.{first}
-use Rattle.refusal.proofs.Tests.{cases}
+use Rattle.notions.specs.First.{first}
+use Rattle.notions.proofs.Tests.{cases}
 
 pub first-most : (n : ℕ) (p : ℕ → Bool) → first n p ≤ n
 unfolding first

@@ -1,9 +1,9 @@
--- `rules::decode` meets its contract. Assumes nothing.
+-- `steps::decode` meets its contract. Assumes nothing.
 use lib.Dec.{lit<}
-use Rattle.rules.specs.Steps.{stepOf}
-use Rattle.rules.proofs.Steps.{told}
-use Rattle.rules.proofs.decode.Statement.{statement}
-use Rattle.rules.proofs.decode.Tie as tie
+use Rattle.steps.specs.Steps.{stepOf}
+use Rattle.steps.proofs.Steps.{told}
+use Rattle.steps.proofs.decode.Statement.{statement}
+use Rattle.steps.proofs.decode.Tie as tie
 
 array-read-flags : tie.Need-array-read-flags
 array-read-flags c = lit< tt

@@ -4,7 +4,7 @@ use Prim.Native.Nat.{ℕ, zero, suc, _+_, _<_}
 use native.Mathlib.Omega.{arith}
 use lib.ListN.{take, drop, set}
 use lib.Seq.{getD-drop, sets}
-use Rattle.refusal.specs.Bytes.{Bytes}
+use Rattle.notions.specs.Bytes.{Bytes}
 
 pub bytes-cons : (x : ℕ) (l : List ℕ) → x < 256 → Bytes l → Bytes (x ∷ l)
 bytes-cons x l h p zero = h

@@ -1,0 +1,3 @@
+pub mod Steps
+pub mod Promises
+pub mod Settled

@@ -17,10 +17,6 @@ use Rattle.effects.proofs.Laws.{length-written}
 use Rattle.monitor.specs.Runs.{State, before, said, answers}
 use Rattle.traces.specs.Traces.{stepSize, answerSize, stepBytes}
 
--- byte j of step n
-pub step-byte : (b : List ℕ) (n j : ℕ) → j < stepSize → getD (stepBytes b n) j 0 ≡ getD b (stepSize * n + j) 0
-step-byte b n j h = getD-take stepSize (drop (stepSize * n) b) j 0 h ∙ getD-drop (stepSize * n) b j 0
-
 -- four answer bytes a step
 pub length-answers : (l : Layout) (t : ℕ → Step) (x : State) (n : ℕ) → length (answers l t x n) ≡ answerSize * n
 unfolding answers

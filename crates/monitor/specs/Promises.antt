@@ -29,34 +29,6 @@ use Rattle.monitor.specs.Runs.{memoryAfter, roomAfter, totals}
 
 -- ---- refusals
 
-abbrev pub mostSteps : ℕ
-mostSteps = 4096
-
--- a zero bit or byte of step n is set
-abbrev pub unclean : List ℕ → ℕ → Bool
-unclean b n = not (clean (stepBytes b n))
-
-abbrev pub firstUnclean : List ℕ → ℕ
-firstUnclean b = first (count b) (unclean b)
-
--- a trace that is not whole steps, or over 4,096 of them
-abbrev pub misfits : List ℕ → Bool
-misfits b = not (eqb (length b % stepSize) 0) || ltb mostSteps (count b)
-
--- refusals 7 to 9 of a trace and an answer room of so many bytes: all steps are checked before the first is judged
-unfoldable pub traceCheck : List ℕ → ℕ → Answer
-traceCheck b room =
-    pick (misfits b) (refusedAt traceSize 0)
-    (pick (ltb room (answerSize * count b)) (refusedAt roomSize 0)
-    (pick (ltb (firstUnclean b) (count b)) (refusedAt stepNotZero (firstUnclean b)) call.Done))
-
--- the same of one step
-unfoldable pub stepCheck : List ℕ → ℕ → Answer
-stepCheck b room =
-    pick (not (eqb (length b) stepSize)) (refusedAt traceSize 0)
-    (pick (ltb room answerSize) (refusedAt roomSize 0)
-    (pick (unclean b 0) (refusedAt stepNotZero 0) call.Done))
-
 -- refusals 1 and 8 of a run with a layout that has been read
 unfoldable pub runCheck : List ℕ → List ℕ → ℕ → Answer
 runCheck memory trace room =
@@ -110,14 +82,6 @@ pub record Steps (memory layout step : List ℕ) (m : Monitor) (room memory′ r
       ≡ lent (callCheck memory layout (stepCheck step (length room)))
       (bytes (answer (layoutOf layout) m (steps step 0) memory) ++ drop answerSize room)
       room
-
--- `fits`, the check of a trace and of so much answer room
-pub record Fits (trace : List ℕ) (room : ℕ) (r : Answer) : Type 0 where
-  pub answered : A.row r ≡ A.row (traceCheck trace room)
-
--- `step_record`: the bytes of step n, and zeros if the trace has no such step
-abbrev pub GivesRecord : List ℕ → ℕ → List ℕ → Type 0
-GivesRecord trace n r = r ≡ pick (ltb n (count trace)) (stepBytes trace n) (replicate stepSize 0)
 
 -- `run_with`, the run alone: whatever the steps' zero bits and bytes are, and however many there are
 pub record Runs (l : Layout) (trace memory room memory′ room′ : List ℕ) (r : Traced) : Type 0 where

@@ -13,23 +13,6 @@ use Rattle.effects.specs.declared.StepAnswer.{StepAnswer}
 use Rattle.monitor.specs.declared.Totals.{Totals}
 use Rattle.effects.specs.Effects.{answer, bytes, written}
 
--- bytes of a step, and of its answer
-abbrev pub stepSize : ℕ
-stepSize = 12
-
-abbrev pub answerSize : ℕ
-answerSize = 4
-
--- the number of steps of a trace's bytes, and step n
-abbrev pub count : List ℕ → ℕ
-count b = length b / stepSize
-
-abbrev pub stepBytes : List ℕ → ℕ → List ℕ
-stepBytes b n = take stepSize (drop (stepSize * n) b)
-
-abbrev pub steps : List ℕ → ℕ → Step
-steps b n = stepOf (stepBytes b n)
-
 -- what stands between two steps
 pub record State : Type 0 where
   pub monitor : Monitor

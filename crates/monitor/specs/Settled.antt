@@ -62,12 +62,6 @@ steps-settled memory layout step m room memory₁ room₁ memory₂ room₂ r q 
   p .room-left ∙ sym (p′ .room-left),
 )
 
-pub fits-settled : (trace : List ℕ) (room : ℕ) (r q : Answer) → Fits trace room r → Fits trace room q → r ≡ q
-fits-settled trace room r q p p′ = row-settled r q (p .answered ∙ sym (p′ .answered))
-
-pub gives-record-settled : (trace : List ℕ) (n : ℕ) (r q : List ℕ) → GivesRecord trace n r → GivesRecord trace n q → r ≡ q
-gives-record-settled trace n r q p p′ = p ∙ sym p′
-
 pub runs-settled : (l : Layout) (trace memory room memory₁ room₁ memory₂ room₂ : List ℕ) (r q : Traced)
     → Runs l trace memory room memory₁ room₁ r → Runs l trace memory room memory₂ room₂ q
     → (r ≡ q) × (memory₁ ≡ memory₂) × (room₁ ≡ room₂)

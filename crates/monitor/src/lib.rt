@@ -1,9 +1,7 @@
 // The monitor on lent memory: one step from whatever it remembers, and a trace from its start.
-use effects::Judged;
 use effects::StepAnswer;
 use layout::Checked;
 use layout::Layout;
-use refusal::Answer;
 use refusal::Refusal;
 use rules::Monitor;
 ghost use mathlib.Core.Path.{_≡_};
@@ -32,38 +30,6 @@ pub enum Traced {
     Refused(Refusal),
 }
 
-// The bytes of a step and of its answer, and the most steps of a trace.
-pub const STEP: usize = 12;
-
-pub const ANSWER: usize = 4;
-
-pub const MOST_STEPS: usize = 4096;
-
-// The 12 bytes of a step.
-fn step_bytes(b: &[u8], n: usize) -> [u8; 12]
-    requires { ⌜ R.stepSize * n + R.stepSize ≤ length (now b) ⌝ }
-    ensures { λ r. ⌜ r ≡ R.stepBytes (now (b .entry)) n ⌝ }
-{
-    let p = STEP * n;
-    let mut r = [0u8; 12];
-    let mut k: usize = 0;
-    while k < STEP {
-        r[k] = b[p + k];
-        k += 1;
-    }
-    r
-}
-
-// The same of any step: zeros if the trace has none with this number.
-pub fn step_record(trace: &[u8], n: usize) -> [u8; 12]
-    ensures { λ r. ⌜ P.GivesRecord (now (trace .entry)) n r ⌝ }
-{
-    if n < trace.len() / STEP {
-        return step_bytes(trace, n);
-    }
-    [0u8; 12]
-}
-
 // The four answer bytes, at a place of the room.
 fn put_answer(room: &mut [u8], at: usize, a: StepAnswer)
     requires { ⌜ at + R.answerSize ≤ length (now room) ⌝ }
@@ -73,21 +39,6 @@ fn put_answer(room: &mut [u8], at: usize, a: StepAnswer)
     room[at + 1] = a.exposed;
     room[at + 2] = a.cpu;
     room[at + 3] = a.dma;
-}
-
-// The first step with a zero bit or byte set; the number of steps if there is none.
-fn first_unclean(b: &[u8]) -> usize
-    ensures { λ r. ⌜ r ≡ P.firstUnclean (now (b .entry)) ⌝ }
-{
-    let n = b.len() / STEP;
-    let mut k: usize = 0;
-    while k < n {
-        if !steps::clean(step_bytes(b, k)) {
-            return k;
-        }
-        k += 1;
-    }
-    k
 }
 
 fn one_if(resets: bool) -> usize
@@ -156,37 +107,6 @@ pub fn run_with(l: Layout, trace: &[u8], memory: &mut [u8], room: &mut [u8]) -> 
         });
     }
     Traced::Judged(run(l, trace, memory, room))
-}
-
-// Refusals 7 to 9 of a trace and of so many bytes of answer room.
-pub fn fits(trace: &[u8], room: usize) -> Answer
-    ensures { λ r. ⌜ P.Fits (now (trace .entry)) room r ⌝ }
-{
-    let steps = trace.len() / STEP;
-    if (trace.len() % STEP != 0) | (MOST_STEPS < steps) {
-        return refusal::refused(refusal::TRACE_SIZE);
-    }
-    if room < ANSWER * steps {
-        return refusal::refused(refusal::ROOM_SIZE);
-    }
-    let place = first_unclean(trace);
-    if place < steps {
-        return Answer::Refused(Refusal {
-            number: refusal::STEP_NOT_ZERO,
-            place,
-        });
-    }
-    Answer::Done
-}
-
-// The same of one step.
-fn step_fits(step: &[u8], room: usize) -> Answer
-    ensures { λ r. ⌜ row r ≡ row (P.stepCheck (now (step .entry)) room) ⌝ }
-{
-    if step.len() != STEP {
-        return refusal::refused(refusal::TRACE_SIZE);
-    }
-    fits(step, room)
 }
 
 // Judges a trace on lent memory, from the monitor's start, and puts four answer bytes a step into the room.

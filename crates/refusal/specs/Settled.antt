@@ -5,7 +5,7 @@ use native.Mathlib.Omega.{arith}
 use Rattle.refusal.specs.declared.Answer.{Answer}
 use Rattle.refusal.specs.declared.Answer.the-variants.{Done, Refused}
 use Rattle.refusal.specs.Answers.{row}
-use Rattle.refusal.specs.Promises.{RefusesWith}
+use Rattle.refusal.specs.Promises.{RefusesWith, RefusesAt}
 
 pub row-settled : (a b : Answer) → row a ≡ row b → a ≡ b
 row-settled Done Done e = refl
@@ -19,3 +19,6 @@ row-settled (Refused r) (Refused s) e =
 
 pub refuses-with-settled : (n : ℕ) (r q : Answer) → RefusesWith n r → RefusesWith n q → r ≡ q
 refuses-with-settled n r q p p′ = row-settled r q (p ∙ sym p′)
+
+pub refuses-at-settled : (n p : ℕ) (r q : Answer) → RefusesAt n p r → RefusesAt n p q → r ≡ q
+refuses-at-settled n p r q e f = row-settled r q (e ∙ sym f)

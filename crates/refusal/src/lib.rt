@@ -20,6 +20,13 @@ pub fn refused(number: u8) -> Answer
     Answer::Refused(Refusal { number, place: 0 })
 }
 
+// Refused with a number at a place.
+pub fn refused_at(number: u8, place: usize) -> Answer
+    ensures { λ r. ⌜ P.RefusesAt number place r ⌝ }
+{
+    Answer::Refused(Refusal { number, place })
+}
+
 pub const MEMORY_SIZE: u8 = 1;
 
 pub const LAYOUT_SIZE: u8 = 2;

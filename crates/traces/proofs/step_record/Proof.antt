@@ -1,9 +1,9 @@
--- `monitor::step_record` meets its contract. Assumes nothing.
+-- `traces::step_record` meets its contract. Assumes nothing.
 use borrow.Author.Needs.{needs}
 use mathlib.Core.Path.{_∙_}
 use borrow.Author.Tests.{lt-ltb, le-ltb}
-use Rattle.monitor.proofs.step_record.Statement.{statement}
-use Rattle.monitor.proofs.step_record.Tie as tie
+use Rattle.traces.proofs.step_record.Statement.{statement}
+use Rattle.traces.proofs.step_record.Tie as tie
 
 step-bytes-requires : tie.Need-step-bytes-requires
 step-bytes-requires c κs = search needs

@@ -1,12 +1,12 @@
--- `monitor::step_bytes` meets its contract. Assumes nothing.
+-- `traces::step_bytes` meets its contract. Assumes nothing.
 use Prim.Native.Nat.{_*_, _-_, _≤_}
 use mathlib.Core.Path.{_≡_, refl}
 use native.Mathlib.Omega.{arith}
 use lib.ListN.{length, take, drop, length-set}
 use borrow.Author.Needs.{needs}
-use Rattle.monitor.proofs.Lists.{one-more, all-read}
-use Rattle.monitor.proofs.step_bytes.Statement.{statement}
-use Rattle.monitor.proofs.step_bytes.Tie as tie
+use Rattle.traces.proofs.Lists.{one-more, all-read}
+use Rattle.traces.proofs.step_bytes.Statement.{statement}
+use Rattle.traces.proofs.step_bytes.Tie as tie
 
 abbrev Inv-loop : tie.InvT-loop
 Inv-loop b n p r₀ k₀ r k = (p ≡ 12 * n) × (k ≤ 12) × (length r ≡ 12) × (take k r ≡ take k (drop p b))

@@ -1,4 +1,4 @@
--- `monitor::first_unclean` meets its contract. Assumes nothing.
+-- `traces::first_unclean` meets its contract. Assumes nothing.
 use borrow.Author.Needs.{needs}
 use Prim.Native.Nat.{_-_}
 use mathlib.Core.Path.{_≡_, refl, ap, sym, _∙_}
@@ -6,10 +6,9 @@ use mathlib.Core.Bool.{not}
 use native.Mathlib.Omega.{arith}
 use Rattle.notions.proofs.First.{Passed, passed-zero, passed-more, passed-found, passed-all}
 use Rattle.steps.specs.Steps.{clean}
-use Rattle.traces.specs.Traces.{count}
-use Rattle.traces.specs.Traces.{unclean}
-use Rattle.monitor.proofs.first_unclean.Statement.{statement}
-use Rattle.monitor.proofs.first_unclean.Tie as tie
+use Rattle.traces.specs.Traces.{count, unclean}
+use Rattle.traces.proofs.first_unclean.Statement.{statement}
+use Rattle.traces.proofs.first_unclean.Tie as tie
 
 abbrev Inv-loop : tie.InvT-loop
 Inv-loop b n k₀ k = (n ≡ count b) × Passed n (unclean b) k

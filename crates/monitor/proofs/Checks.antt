@@ -1,31 +1,17 @@
--- The checks of the calls: what has passed, and what then passes too. Assumes nothing.
+-- What a call that is not refused has told. Assumes nothing.
 use mathlib.Core.Path.{_≡_, refl, ap, sym}
-use mathlib.Core.Bool.{Bool, false, not, _||_}
-use mathlib.Core.List.{List}
-use Prim.Native.Nat.{ℕ, _*_, _%_, _≤_, _<_}
+use Prim.Native.Nat.{ℕ}
 use native.Mathlib.Omega.{arith}
-use lib.Dec.{eqb, ltb}
-use lib.ListN.{length, drop, length-take, length-drop}
-use lib.Seq.{take-take}
-use borrow.Author.Tests.{eqb-true, eq-eqb, ltb-false, le-ltb, not-false}
-use Rattle.notions.specs.Choice.{pick}
-use Rattle.notions.specs.First.{first}
-use Rattle.refusal.specs.Numbers.{roomSize, stepNotZero}
-use Rattle.refusal.specs.Answers.{refusedAt, told}
+use lib.ListN.{length}
+use Rattle.refusal.specs.Answers.{told}
 use Rattle.refusal.specs.Settled.{row-settled}
 use Rattle.refusal.specs.declared.Refusal.{Refusal}
 use Rattle.refusal.specs.declared.Answer.{Answer}
 use Rattle.refusal.specs.declared.Answer.the-variants.{Done, Refused}
-use Rattle.notions.proofs.Tests.{cases, neither}
-use Rattle.notions.proofs.First.{none-found}
-use Rattle.refusal.proofs.Order.{done-passed}
-use Rattle.steps.specs.Steps.{stepOf}
 use Rattle.rules.specs.declared.Monitor.{Monitor}
 use Rattle.monitor.specs.declared.Totals.{Totals}
 use Rattle.monitor.specs.declared.Stepped.the-variants as stepped
 use Rattle.monitor.specs.declared.Traced.the-variants as traced
-use Rattle.traces.specs.Traces.{stepSize, answerSize, count, stepBytes, steps}
-use Rattle.traces.specs.Traces.{mostSteps, unclean, firstUnclean, traceCheck, stepCheck}
 use Rattle.monitor.specs.Promises.{totalsValues, tracedRow, remembered, steppedRow}
 use Rattle.monitor.specs.Settled.{monitor-settled, traced-row-settled}
 

@@ -6,8 +6,8 @@ use Prim.Native.Nat.{ℕ, zero, suc, _+_, _*_, _<_}
 use native.Mathlib.Nat.{not-suc-le-zero}
 use native.Mathlib.Omega.{arith}
 use lib.Dec.{eqb}
-use lib.ListN.{length, getD, take, drop, length-append}
-use lib.Seq.{getD-take, getD-drop, drop-at}
+use lib.ListN.{length, take, drop, length-append}
+use lib.Seq.{drop-at}
 use borrow.Author.Tests.{eqb-true, eqb-false}
 use Rattle.notions.proofs.Tests.{cases}
 use Rattle.layout.specs.declared.Layout.{Layout}
@@ -15,7 +15,7 @@ use Rattle.steps.specs.declared.Step.{Step}
 use Rattle.effects.specs.Effects.{bytes}
 use Rattle.effects.proofs.Laws.{length-written}
 use Rattle.monitor.specs.Runs.{State, before, said, answers}
-use Rattle.traces.specs.Traces.{stepSize, answerSize, stepBytes}
+use Rattle.traces.specs.Traces.{answerSize}
 
 -- four answer bytes a step
 pub length-answers : (l : Layout) (t : ℕ → Step) (x : State) (n : ℕ) → length (answers l t x n) ≡ answerSize * n

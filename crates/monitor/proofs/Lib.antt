@@ -1,5 +1,6 @@
 pub mod Lists
 pub mod Laws
+pub mod Decisions
 pub mod Checks
 pub mod Turns
 pub mod Calls

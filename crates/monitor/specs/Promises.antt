@@ -1,30 +1,28 @@
 -- What the calls for one step and for a trace promise, and what they offer to the crates above, for all inputs. Assumes nothing.
 use mathlib.Core.Path.{_≡_}
-use mathlib.Core.Bool.{Bool, not, _||_}
+use mathlib.Core.Bool.{not}
 use mathlib.Core.List.{List, [], _∷_, _++_}
-use Prim.Native.Nat.{ℕ, _*_, _%_}
+use Prim.Native.Nat.{ℕ, _*_}
 use lib.Dec.{eqb, ltb}
-use lib.ListN.{length, drop, replicate}
+use lib.ListN.{length, drop}
 use Rattle.notions.specs.Choice.{pick}
-use Rattle.notions.specs.First.{first}
 use Rattle.refusal.specs.Answers as A
 use Rattle.refusal.specs.Answers.{refusedAt, told, lent}
-use Rattle.refusal.specs.Numbers.{memorySize, traceSize, roomSize, stepNotZero}
+use Rattle.refusal.specs.Numbers.{memorySize, roomSize}
 use Rattle.refusal.specs.declared.Answer.{Answer}
 use Rattle.refusal.specs.declared.Answer.the-variants as call
 use Rattle.layout.specs.declared.Layout.{Layout}
 use Rattle.layout.specs.Layouts.{layoutOf}
 use Rattle.layout.specs.Calls.{memoryBytes, callCheck}
 use Rattle.rules.specs.declared.Monitor.{Monitor}
-use Rattle.steps.specs.Steps.{clean}
-use Rattle.monitor.specs.Decisions.{next}
+use Rattle.effects.specs.Effects.{bytes}
+use Rattle.traces.specs.Traces.{answerSize, count, steps, traceCheck, stepCheck}
 use Rattle.monitor.specs.declared.Totals.{Totals}
 use Rattle.monitor.specs.declared.Stepped.{Stepped}
 use Rattle.monitor.specs.declared.Stepped.the-variants as stepped
 use Rattle.monitor.specs.declared.Traced.{Traced}
 use Rattle.monitor.specs.declared.Traced.the-variants as traced
-use Rattle.effects.specs.Effects.{bytes, written, answer}
-use Rattle.traces.specs.Traces.{stepSize, answerSize, count, stepBytes, steps}
+use Rattle.monitor.specs.Decisions.{next, decidedAnswer, decidedMemory}
 use Rattle.monitor.specs.Runs.{memoryAfter, roomAfter, totals}
 
 -- ---- refusals
@@ -48,7 +46,7 @@ tracedRow (traced.Refused r) = A.row (call.Refused r)
 
 -- what the monitor remembers: held as 1 or 0, and the PC
 abbrev pub remembered : Monitor → List ℕ
-remembered m = pick (m .held) 1 0 ∷ m .last ∷ []
+remembered m = pick (m .held) 1 0 ∷ m .lastpc ∷ []
 
 -- 0 and what the monitor then remembers, or the refusal's number and place
 abbrev pub steppedRow : Stepped → List ℕ
@@ -76,11 +74,11 @@ pub record Steps (memory layout step : List ℕ) (m : Monitor) (room memory′ r
       ≡ told (callCheck memory layout (stepCheck step (length room))) (remembered (next (layoutOf layout) m (steps step 0)))
   pub memory-left :
       memory′
-      ≡ lent (callCheck memory layout (stepCheck step (length room))) (written (layoutOf layout) m (steps step 0) memory) memory
+      ≡ lent (callCheck memory layout (stepCheck step (length room))) (decidedMemory (layoutOf layout) m (steps step 0) memory) memory
   pub room-left :
       room′
       ≡ lent (callCheck memory layout (stepCheck step (length room)))
-      (bytes (answer (layoutOf layout) m (steps step 0) memory) ++ drop answerSize room)
+      (bytes (decidedAnswer (layoutOf layout) m (steps step 0) memory) ++ drop answerSize room)
       room
 
 -- `run_with`, the run alone: whatever the steps' zero bits and bytes are, and however many there are

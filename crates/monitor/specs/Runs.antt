@@ -1,17 +1,17 @@
 -- A run: the steps of a trace one after another, by number. Assumes nothing.
 use mathlib.Core.List.{List, [], _++_}
-use Prim.Native.Nat.{ℕ, zero, suc, _+_, _*_, _/_}
-use lib.ListN.{length, take, drop}
+use Prim.Native.Nat.{ℕ, zero, suc, _+_, _*_}
+use lib.ListN.{drop}
 use Rattle.notions.specs.Choice.{pick}
 use Rattle.layout.specs.declared.Layout.{Layout}
 use Rattle.steps.specs.declared.Step.{Step}
 use Rattle.rules.specs.declared.Monitor.{Monitor}
-use Rattle.steps.specs.Steps.{stepOf}
-use Rattle.monitor.specs.Decisions.{resets, next}
 use Rattle.rules.specs.Rules.{start}
 use Rattle.effects.specs.declared.StepAnswer.{StepAnswer}
+use Rattle.effects.specs.Effects.{bytes}
+use Rattle.traces.specs.Traces.{answerSize, count, steps}
 use Rattle.monitor.specs.declared.Totals.{Totals}
-use Rattle.effects.specs.Effects.{answer, bytes, written}
+use Rattle.monitor.specs.Decisions.{resets, next, decidedAnswer, decidedMemory}
 
 -- what stands between two steps
 pub record State : Type 0 where
@@ -23,7 +23,7 @@ abbrev pub begin : List ℕ → State
 begin memory = record { monitor = start; memory = memory }
 
 abbrev pub turn : Layout → Step → State → State
-turn l s x = record { monitor = next l (x .monitor) s; memory = written l (x .monitor) s (x .memory) }
+turn l s x = record { monitor = next l (x .monitor) s; memory = decidedMemory l (x .monitor) s (x .memory) }
 
 -- what stands before step n of a run from x
 unfoldable pub before : Layout → (ℕ → Step) → State → ℕ → State
@@ -32,7 +32,7 @@ before l t x (suc n) = turn l (t n) (before l t x n)
 
 -- what step n answers
 abbrev pub said : Layout → (ℕ → Step) → State → ℕ → StepAnswer
-said l t x n = answer l (before l t x n .monitor) (t n) (before l t x n .memory)
+said l t x n = decidedAnswer l (before l t x n .monitor) (t n) (before l t x n .memory)
 
 -- the answer bytes of the first n steps, and how many of these reset
 unfoldable pub answers : Layout → (ℕ → Step) → State → ℕ → List ℕ

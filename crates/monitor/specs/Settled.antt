@@ -6,7 +6,6 @@ use Prim.Native.Nat.{ℕ}
 use native.Mathlib.Omega.{arith}
 use Rattle.refusal.specs.Settled.{row-settled}
 use Rattle.notions.specs.Settled.{flag-settled}
-use Rattle.refusal.specs.declared.Answer.{Answer}
 use Rattle.refusal.specs.declared.Answer.the-variants as call
 use Rattle.layout.specs.declared.Layout.{Layout}
 use Rattle.rules.specs.declared.Monitor.{Monitor}
@@ -15,7 +14,6 @@ use Rattle.monitor.specs.declared.Stepped.the-variants as stepped
 use Rattle.monitor.specs.declared.Traced.{Traced}
 use Rattle.monitor.specs.declared.Traced.the-variants as traced
 use Rattle.monitor.specs.Promises.{remembered, tracedRow, steppedRow, Traces, Steps, Runs}
-use Rattle.traces.specs.Promises.{Fits, GivesRecord}
 
 -- ---- an answer's row settles the answer
 
@@ -32,9 +30,9 @@ traced-row-settled (traced.Refused r) (traced.Refused s) e = cc (row-settled (ca
 pub monitor-settled : (m n : Monitor) → remembered m ≡ remembered n → m ≡ n
 monitor-settled m n e =
     let h : m .held ≡ n .held = flag-settled (m .held) (n .held) (cc) in
-    let k : m .last ≡ n .last = cc in
-    ap (λ (x : Bool). record { held = x; last = m .last }) h
-    ∙ ap (λ (x : ℕ). record { held = n .held; last = x }) k
+    let k : m .lastpc ≡ n .lastpc = cc in
+    ap (λ (x : Bool). record { held = x; lastpc = m .lastpc }) h
+    ∙ ap (λ (x : ℕ). record { held = n .held; lastpc = x }) k
 
 pub stepped-row-settled : (r q : Stepped) → steppedRow r ≡ steppedRow q → r ≡ q
 stepped-row-settled (stepped.Judged m) (stepped.Judged n) e = ap stepped.Judged (monitor-settled m n (cc))

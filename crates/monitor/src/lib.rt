@@ -4,20 +4,27 @@ use layout::Checked;
 use layout::Layout;
 use refusal::Refusal;
 use rules::Monitor;
+use traces::ANSWER;
+use traces::STEP;
 ghost use mathlib.Core.Path.{_≡_};
-ghost use mathlib.Core.List.{_++_};
-ghost use Prim.Native.Nat.{_+_, _*_, _/_, _≤_, _<_};
-ghost use lib.ListN.{length, take, drop};
+ghost use Prim.Native.Nat.{_+_, _*_, _≤_};
+ghost use lib.ListN.{length};
 ghost use Rattle.notions.specs.Choice.{pick};
-ghost use Rattle.refusal.specs.Answers.{row};
 ghost use Rattle.effects.specs.Effects as E;
-ghost use Rattle.effects.specs.Promises.{Acts};
+ghost use Rattle.traces.specs.Traces as T;
 ghost use Rattle.monitor.specs.Runs as R;
+ghost use Rattle.monitor.specs.Inner as I;
 ghost use Rattle.monitor.specs.Promises as P;
 
 pub struct Totals {
     pub steps: usize,
     pub resets: usize,
+}
+
+// What one step leaves beside memory and room.
+struct Outcome {
+    answer: StepAnswer,
+    monitor: Monitor,
 }
 
 pub enum Stepped {
@@ -32,13 +39,13 @@ pub enum Traced {
 
 // The four answer bytes, at a place of the room.
 fn put_answer(room: &mut [u8], at: usize, a: StepAnswer)
-    requires { ⌜ at + R.answerSize ≤ length (now room) ⌝ }
-    ensures { λ r. ⌜ now (room .exit) ≡ take at (now (room .entry)) ++ E.bytes a ++ drop (at + R.answerSize) (now (room .entry)) ⌝ }
+    requires { ⌜ at + T.answerSize ≤ length (now room) ⌝ }
+    ensures { λ r. ⌜ now (room .exit) ≡ I.replaced (now (room .entry)) at T.answerSize (E.bytes a) ⌝ }
 {
     room[at] = a.cause;
     room[at + 1] = a.exposed;
-    room[at + 2] = a.cpu;
-    room[at + 3] = a.dma;
+    room[at + 2] = a.cpubyte;
+    room[at + 3] = a.dmabyte;
 }
 
 fn one_if(resets: bool) -> usize
@@ -47,7 +54,7 @@ fn one_if(resets: bool) -> usize
     if resets { 1 } else { 0 }
 }
 
-// Step i of a trace: its stores, and its answer at its place of the room.
+// Step i of a trace: its decision, its stores, and its answer at its place of the room.
 fn run_step(
     l: Layout,
     m: Monitor,
@@ -55,20 +62,25 @@ fn run_step(
     i: usize,
     memory: &mut [u8],
     room: &mut [u8],
-) -> Judged
-    requires { ⌜ (R.stepSize * i + R.stepSize ≤ length (now trace)) × (R.answerSize * i + R.answerSize ≤ length (now room)) ⌝ }
-    ensures { λ r. ⌜ Acts l m (R.steps (now (trace .entry)) i) (now (memory .entry)) (now (memory .exit)) r
-        × (now (room .exit) ≡ take (R.answerSize * i) (now (room .entry)) ++ E.bytes (r .answer) ++ drop (R.answerSize * i + R.answerSize) (now (room .entry))) ⌝ }
+) -> Outcome
+    requires { ⌜ (T.stepSize * i + T.stepSize ≤ length (now trace)) × (T.answerSize * i + T.answerSize ≤ length (now room)) ⌝ }
+    ensures { λ r. ⌜ I.RunsStep l m (T.steps (now (trace .entry)) i) i (now (memory .entry)) (now (room .entry))
+        (now (memory .exit)) (now (room .exit)) r ⌝ }
 {
-    let s = steps::decode(step_bytes(trace, i));
-    let j = effects::judge(l, m, s, memory);
-    put_answer(room, ANSWER * i, j.answer);
-    j
+    let s = steps::decode(traces::step_record(trace, i));
+    let cause = rules::cause(l, m, s);
+    let answer = effects::act(l, cause, s, memory);
+    put_answer(room, ANSWER * i, answer);
+    let monitor = Monitor {
+        held: cause != 0,
+        lastpc: s.pc,
+    };
+    Outcome { answer, monitor }
 }
 
 // All steps of a trace, from the monitor's start.
 fn run(l: Layout, trace: &[u8], memory: &mut [u8], room: &mut [u8]) -> Totals
-    requires { ⌜ R.answerSize * R.count (now trace) ≤ length (now room) ⌝ }
+    requires { ⌜ T.answerSize * T.count (now trace) ≤ length (now room) ⌝ }
     ensures { λ r. ⌜ (r ≡ R.totals l (now (trace .entry)) (now (memory .entry)))
         × (now (memory .exit) ≡ R.memoryAfter l (now (trace .entry)) (now (memory .entry)))
         × (now (room .exit) ≡ R.roomAfter l (now (trace .entry)) (now (memory .entry)) (now (room .entry))) ⌝ }
@@ -76,7 +88,7 @@ fn run(l: Layout, trace: &[u8], memory: &mut [u8], room: &mut [u8]) -> Totals
     let steps = trace.len() / STEP;
     let mut m = Monitor {
         held: true,
-        last: 0,
+        lastpc: 0,
     };
     let mut resets: usize = 0;
     let mut i: usize = 0;
@@ -115,7 +127,7 @@ pub fn trace(memory: &mut [u8], layout: &[u8], trace: &[u8], room: &mut [u8]) ->
     ensures { λ r. ⌜ P.Traces (now (memory .entry)) (now (layout .entry)) (now (trace .entry)) (now (room .entry))
         (now (memory .exit)) (now (room .exit)) r ⌝ }
 {
-    let rest = fits(trace, room.len());
+    let rest = traces::fits(trace, room.len());
     match layout::admit(memory, layout, rest) {
         Checked::Good(l) => run_with(l, trace, memory, room),
         Checked::Refused(r) => Traced::Refused(r),
@@ -134,7 +146,7 @@ pub fn step(
     ensures { λ r. ⌜ P.Steps (now (memory .entry)) (now (layout .entry)) (now (step .entry)) monitor (now (room .entry))
         (now (memory .exit)) (now (room .exit)) r ⌝ }
 {
-    let rest = step_fits(step, room.len());
+    let rest = traces::step_fits(step, room.len());
     match layout::admit(memory, layout, rest) {
         Checked::Good(l) => {
             let j = run_step(l, monitor, step, 0, memory, room);

@@ -45,7 +45,7 @@ loop-again c =
       j .kept .1 .1 .1 .1 .0 ∙ h .inv .2,
       j .kept .1 .1 .1 .1 .1 .0 ∙ h .inv .3,
       omega (arith, h .inv, c .one-if .ensures, one-most (not (eqb (j .result .answer .cause) 0))),
-      more _ _ _ _ _ _ _ _ _ (h .inv .5) _ _ (j .ensures .0) _ (j .ensures .1) _ (c .one-if .ensures),
+      more _ _ _ _ _ _ _ _ _ (h .inv .5) _ _ _ (j .ensures) _ (c .one-if .ensures),
     )
 
 same-length : tie.Need-same-length Inv-loop μ-loop

@@ -1,20 +1,21 @@
 -- `monitor::run_step` meets its contract. Assumes nothing.
 use borrow.Author.Needs.{needs}
-use mathlib.Core.Path.{ap, _∙_}
 use native.Mathlib.Omega.{arith}
-use Rattle.steps.specs.Steps.{stepOf}
-use Rattle.monitor.proofs.Turns.{acted}
+use Rattle.monitor.proofs.Turns.{step-run}
 use Rattle.monitor.proofs.run_step.Statement.{statement}
 use Rattle.monitor.proofs.run_step.Tie as tie
 
-step-bytes-requires : tie.Need-step-bytes-requires
-step-bytes-requires c κs = omega arith
+step-record-requires : tie.Need-step-record-requires
+step-record-requires c κs = tt
 
 decode-requires : tie.Need-decode-requires
 decode-requires c κs = tt
 
-judge-requires : tie.Need-judge-requires
-judge-requires c κs = tt
+cause-requires : tie.Need-cause-requires
+cause-requires c κs = tt
+
+act-requires : tie.Need-act-requires
+act-requires c κs = tt
 
 mul-put-answer : tie.Need-mul-put-answer
 mul-put-answer c = search needs
@@ -29,18 +30,24 @@ same-length-2 : tie.Need-same-length-2
 same-length-2 c = search needs
 
 returns : tie.Need-returns
-returns c = (
-  acted _ _ _ _ _ _ _ (c .before .before .before .before .before .before .before .before .decode .ensures ∙ ap stepOf (c .before .before .before .before .before .before .before .before .before .step-bytes .ensures)) (c .before .before .before .before .before .before .judge .ensures),
-  c .before .before .put-answer .ensures,
-)
+returns c =
+    let put = c .before .before in
+    let act = put .before .before .before .before in
+    let cause = act .before .before in
+    let decode = cause .before in
+    let record₀ = decode .before in
+    let start = record₀ .before .before .before .before in
+    step-run _ _ _ _ _ _ _ _ _ _ _ _ (start .pre .0) (record₀ .step-record .ensures) (decode .decode .ensures)
+    (cause .cause .ensures) (act .act .ensures) (put .put-answer .ensures)
 
 pub run-step-spec : {M : Type 1} → statement M
 run-step-spec =
     tie.close
     (tie.spec
-    step-bytes-requires
+    step-record-requires
     decode-requires
-    judge-requires
+    cause-requires
+    act-requires
     mul-put-answer
     put-answer-requires
     same-length

@@ -15,8 +15,12 @@ enum-known-l c = search needs
 
 run-step-requires : tie.Need-run-step-requires
 run-step-requires c κs =
-    let h = c .before .before .before .before .before .before .before .before .before .before .before .before .args in
-    step-admitted (h .memory .now) (h .layout .now) (h .step .now) (h .room .now) _ (admitted (h .memory .now) (h .layout .now) _ _ _ _ (c .before .before .before .before .before .before .before .step-fits .ensures) (c .before .before .before .before .before .admit .ensures) (c .before .before .before .l .given .1))
+    let l = c .before .before .before in
+    let a = l .before .before in
+    let f = a .before .before in
+    let h = f .before .before .before .before .before .args in
+    step-admitted (h .memory .now) (h .layout .now) (h .step .now) (h .room .now) _
+    (admitted (h .memory .now) (h .layout .now) _ _ _ _ (f .step-fits .ensures .answered) (a .admit .ensures) (l .l .given .1))
 
 enum-known-r : tie.Need-enum-known-r
 enum-known-r c = search needs
@@ -29,17 +33,25 @@ same-length-2 c = search needs
 
 returns : tie.Need-returns
 returns c =
-    let h = c .before .before .before .before .before .before .before .before .before .before .before .before .before .before .before .before .before .before .args in
-    let r = c .before .before .before .before .before .run-step in
-    step-judged (h .memory .now) (h .layout .now) (h .step .now) (h .monitor) (h .room .now) _ _ _ _ (admitted (h .memory .now) (h .layout .now) _ _ _ _ (c .before .before .before .before .before .before .before .before .before .before .before .before .before .step-fits .ensures) (c .before .before .before .before .before .before .before .before .before .before .before .admit .ensures) (c .before .before .before .before .before .before .before .before .before .l .given .1)) (r .ensures .0) (r .ensures .1)
+    let r = c .before .before .before .before .before in
+    let l = r .before .before .before .before in
+    let a = l .before .before in
+    let f = a .before .before in
+    let h = f .before .before .before .before .before .args in
+    step-judged (h .memory .now) (h .layout .now) (h .step .now) (h .monitor) (h .room .now) _ _ _ _
+    (admitted (h .memory .now) (h .layout .now) _ _ _ _ (f .step-fits .ensures .answered) (a .admit .ensures) (l .l .given .1))
+    (r .run-step .ensures)
 
 same-length-3 : tie.Need-same-length-3
 same-length-3 c = search needs
 
 returns-2 : tie.Need-returns-2
 returns-2 c =
-    let h = c .before .before .before .before .before .before .before .before .before .before .args in
-    step-refused (h .memory .now) (h .layout .now) (h .step .now) (h .monitor) (h .room .now) _ (admitted (h .memory .now) (h .layout .now) _ _ _ _ (c .before .before .before .before .before .step-fits .ensures) (c .before .before .before .admit .ensures) (c .before .r .given .1))
+    let a = c .before .before .before in
+    let f = a .before .before in
+    let h = f .before .before .before .before .before .args in
+    step-refused (h .memory .now) (h .layout .now) (h .step .now) (h .monitor) (h .room .now) _
+    (admitted (h .memory .now) (h .layout .now) _ _ _ _ (f .step-fits .ensures .answered) (a .admit .ensures) (c .before .r .given .1))
 
 pub step-spec : {M : Type 1} → statement M
 step-spec =

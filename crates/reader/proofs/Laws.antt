@@ -4,24 +4,22 @@ use mathlib.Core.Bool.{Bool, true, false}
 use mathlib.Core.List.{List}
 use Prim.Native.Nat.{ℕ, _≤_, _<_}
 use lib.Dec.{leb}
-use borrow.Author.Tests.{le-leb, lt-leb, lt-ltb, leb-false}
+use borrow.Author.Tests.{le-leb, lt-leb, leb-false}
 use Rattle.notions.specs.Choice.{pick}
 use Rattle.refusal.specs.Numbers.{traceSize, stepNotZero}
 use Rattle.refusal.specs.declared.Refusal.{Refusal}
 use Rattle.steps.specs.declared.Step.{Step}
-use Rattle.traces.specs.Traces.{count, stepBytes, steps}
-use Rattle.traces.specs.Traces.{misfits, unclean}
-use Rattle.traces.specs.Promises.{GivesRecord}
+use Rattle.traces.specs.Traces.{count, steps, misfits, unclean}
 use Rattle.reader.specs.declared.Read.{Read}
 use Rattle.reader.specs.declared.Read.the-variants as read
-use Rattle.reader.specs.Reading.{refusedAt, readAt, placeAfter}
+use Rattle.reader.specs.Reading.{refusedRead, readAt, placeAfter}
 use Rattle.reader.specs.Promises.{ReadsAt, Advances}
 use Rattle.reader.specs.Settled.{read-row-settled}
 
 -- ---- the four answers
 
 module _ (b : List ℕ) (p : ℕ) where
-  pub read-nothing : misfits b ≡ true → readAt b p ≡ refusedAt traceSize 0
+  pub read-nothing : misfits b ≡ true → readAt b p ≡ refusedRead traceSize 0
   unfolding readAt
   read-nothing m = simp m
 
@@ -31,17 +29,13 @@ module _ (b : List ℕ) (p : ℕ) where
     read-end h = simp (m, le-leb (count b) p h)
 
     module _ (h : p < count b) where
-      pub read-unclean : unclean b p ≡ true → readAt b p ≡ refusedAt stepNotZero p
+      pub read-unclean : unclean b p ≡ true → readAt b p ≡ refusedRead stepNotZero p
       unfolding readAt
       read-unclean u = simp (m, lt-leb (count b) p h, u)
 
       pub read-step : unclean b p ≡ false → readAt b p ≡ read.Step (steps b p)
       unfolding readAt
       read-step u = simp (m, lt-leb (count b) p h, u)
-
--- the bytes of a step that is there
-pub record-there : (b : List ℕ) (p : ℕ) (r : List ℕ) → p < count b → GivesRecord b p r → r ≡ stepBytes b p
-record-there b p r h e = e ∙ simp (lt-ltb p (count b) h)
 
 -- ---- the place
 

@@ -1,4 +1,3 @@
 pub mod Laws
 pub mod Held
 pub mod Lent
-pub mod Whole

@@ -1,4 +1,3 @@
 pub mod Reading
 pub mod Promises
 pub mod Settled
-pub mod Whole

@@ -21,24 +21,24 @@ use Rattle.reader.specs.Promises.{ReadsAt, Advances, Begins, Reads}
 step-settled : (s t : Step) → stepValues s ≡ stepValues t → s ≡ t
 step-settled s t e =
     let pc : s .pc ≡ t .pc = cc in
-    let cpu : s .cpu ≡ t .cpu = cc in
-    let dma : s .dma ≡ t .dma = cc in
-    let reads = flag-settled (s .reads) (t .reads) (cc) in
-    let writes = flag-settled (s .writes) (t .writes) (cc) in
+    let cpuaddress : s .cpuaddress ≡ t .cpuaddress = cc in
+    let dmaaddress : s .dmaaddress ≡ t .dmaaddress = cc in
+    let cpureads = flag-settled (s .cpureads) (t .cpureads) (cc) in
+    let cpuwrites = flag-settled (s .cpuwrites) (t .cpuwrites) (cc) in
     let interrupt = flag-settled (s .interrupt) (t .interrupt) (cc) in
-    let active = flag-settled (s .active) (t .active) (cc) in
-    let stores = flag-settled (s .stores) (t .stores) (cc) in
+    let dmaactive = flag-settled (s .dmaactive) (t .dmaactive) (cc) in
+    let dmawrites = flag-settled (s .dmawrites) (t .dmawrites) (cc) in
     let cpudata : s .cpudata ≡ t .cpudata = cc in
     let dmadata : s .dmadata ≡ t .dmadata = cc in
     λ i. record {
       pc = pc i;
-      cpu = cpu i;
-      dma = dma i;
-      reads = reads i;
-      writes = writes i;
+      cpuaddress = cpuaddress i;
+      dmaaddress = dmaaddress i;
+      cpureads = cpureads i;
+      cpuwrites = cpuwrites i;
       interrupt = interrupt i;
-      active = active i;
-      stores = stores i;
+      dmaactive = dmaactive i;
+      dmawrites = dmawrites i;
       cpudata = cpudata i;
       dmadata = dmadata i;
     }

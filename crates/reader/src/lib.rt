@@ -26,14 +26,13 @@ pub struct Advance {
 pub fn step_at(trace: &[u8], place: usize) -> Read
     ensures { λ r. ⌜ P.ReadsAt (now (trace .entry)) place r ⌝ }
 {
-    let steps = trace.len() / traces::STEP;
-    if (trace.len() % traces::STEP != 0) | (traces::MOST_STEPS < steps) {
+    if traces::misfits(trace) {
         return Read::Refused(Refusal {
             number: refusal::TRACE_SIZE,
             place: 0,
         });
     }
-    if steps <= place {
+    if trace.len() / traces::STEP <= place {
         return Read::End;
     }
     let bytes = traces::step_record(trace, place);

@@ -15,11 +15,11 @@ use Rattle.traces.specs.Traces.{answerSize, count, steps}
 use Rattle.monitor.specs.Runs.{begin, before, answers, resetting}
 use Rattle.traces.specs.Traces.{misfits, firstUnclean}
 use Rattle.monitor.specs.Promises.{Traces}
 use Rattle.reader.specs.declared.Read.{Read}
 use Rattle.reader.specs.declared.Read.the-variants as read
 use Rattle.reader.specs.declared.StepReader.{StepReader}
-use Rattle.reader.specs.Reading.{refusedAt}
+use Rattle.reader.specs.Reading.{refusedRead}
 use Rattle.reader.specs.Promises.{Begins, Reads}
 
 -- a reader as `new` makes it, read over and over: `reader k` is what k calls of `next` leave of it, and `said k` what the next one answers
 pub record Reading (trace : RefT (List ℕ)) (reader : ℕ → StepReader) (said : ℕ → Read) : Type 0 where
@@ -60,10 +60,10 @@ abbrev pub ReadsToUnclean : Type 0
 ReadsToUnclean =
     (trace : RefT (List ℕ)) (reader : ℕ → StepReader) (said : ℕ → Read) → Reading trace reader said
     → misfits (now trace) ≡ false → firstUnclean (now trace) < count (now trace)
-    → HandsOut said (firstUnclean (now trace)) (steps (now trace)) (refusedAt stepNotZero (firstUnclean (now trace)))
+    → HandsOut said (firstUnclean (now trace)) (steps (now trace)) (refusedRead stepNotZero (firstUnclean (now trace)))
 
 -- and of one that is not whole steps, or too many, nothing is
 abbrev pub ReadsNothing : Type 0
 ReadsNothing =
     (trace : RefT (List ℕ)) (reader : ℕ → StepReader) (said : ℕ → Read) → Reading trace reader said → misfits (now trace) ≡ true
-    → (k : ℕ) → said k ≡ refusedAt traceSize 0
+    → (k : ℕ) → said k ≡ refusedRead traceSize 0

@@ -65,5 +65,6 @@ ReadsToUnclean =
 -- and of one that is not whole steps, or too many, nothing is
 abbrev pub ReadsNothing : Type 0
 ReadsNothing =
-    (trace : RefT (List ℕ)) (reader : ℕ → StepReader) (said : ℕ → Read) → Reading trace reader said → misfits (now trace) ≡ true
+    (trace : RefT (List ℕ)) (reader : ℕ → StepReader) (said : ℕ → Read) → Reading trace reader said
+    → misfits (now trace) ≡ true
     → (k : ℕ) → said k ≡ refusedRead traceSize 0

@@ -1,7 +1,7 @@
 // Values as bytes, and bytes as digits, as the program `calls` takes and prints them. Numbers have their lightest byte first.
 use rules::Monitor;
-use steps::Step;
 use sha256::Sha;
+use steps::Step;
 ghost use mathlib.Core.Path.{_≡_};
 ghost use Prim.Native.Nat.{_+_, _≤_, _<_};
 ghost use lib.ListN.{length, getD, drop};

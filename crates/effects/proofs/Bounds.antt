@@ -19,7 +19,8 @@ inside on n a e = let p = neither (not on) (leb n a) e in (not-false on (p .0), 
 module _ (on : Bool) (memory : List ℕ) (a : ℕ) where
   pub unread : (not on || leb (length memory) a) ≡ true → 0 ≡ pick on (getD memory a 0) 0
   unread e =
-      cases on (λ o. simp o (sym (List·getD-eq-default memory 0 (leb-true (length memory) a (simp o at e))))) (λ o. simp o)
+      cases on (λ o. simp o (sym (List·getD-eq-default memory 0 (leb-true (length memory) a (simp o at e)))))
+      (λ o. simp o)
 
   pub read : (not on || leb (length memory) a) ≡ false → getD memory a 0 ≡ pick on (getD memory a 0) 0
   read e = simp (inside on (length memory) a e .0)
@@ -33,9 +34,11 @@ module _ (l : Layout) (on : Bool) (a v : ℕ) (memory : List ℕ) where
   pub unstored : (not on || leb (length memory) a) ≡ true → memory ≡ stored l on a v memory
   unfolding stored
   unstored e =
-      cases on (λ o. either (lands l on a) _ memory (set-out memory a v (leb-true (length memory) a (simp o at e)))) (λ o. simp o)
+      cases on (λ o. either (lands l on a) _ memory (set-out memory a v (leb-true (length memory) a (simp o at e))))
+      (λ o. simp o)
 
-  module _ (e : (not on || leb (length memory) a) ≡ false) (c k : Bool) (ec : c ≡ within (l .cr) a) (ek : k ≡ within (l .kr) a) where
+  module _ (e : (not on || leb (length memory) a) ≡ false) (c k : Bool) (ec : c ≡ within (l .cr) a)
+  (ek : k ≡ within (l .kr) a) where
     pub landed : (not c && not k) ≡ true → set memory a v ≡ stored l on a v memory
     unfolding stored
     landed t = simp (inside on (length memory) a e .0, simp (ec, ek) at t)

@@ -12,7 +12,8 @@ use Rattle.effects.specs.declared.StepAnswer.{StepAnswer}
 use Rattle.effects.specs.Effects.{exposing, stored, storing}
 
 -- it hands out nothing, and of its stores only the CPU's is left
-pub quiet : (l : Layout) (s : Step) (memory : List ℕ) (h : Bool) → h ≡ within (l .cr) (s .pc) → (h && not (s .dmaactive)) ≡ true
+pub quiet : (l : Layout) (s : Step) (memory : List ℕ) (h : Bool) → h ≡ within (l .cr) (s .pc)
+    → (h && not (s .dmaactive)) ≡ true
     → (_≡_ {A = StepAnswer} (record { cause = 0; exposed = 0; cpubyte = 0; dmabyte = 0 }) (exposing l s memory))
     × (stored l (s .cpuwrites) (s .cpuaddress) (s .cpudata) memory ≡ storing l s memory)
 unfolding exposing storing stored

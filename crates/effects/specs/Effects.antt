@@ -32,7 +32,8 @@ isReset c = not (eqb c 0)
 
 -- a step that resets hands out nothing
 unfoldable pub answer : Layout → ℕ → Step → List ℕ → StepAnswer
-answer l c s memory = pick (isReset c) (record { cause = c; exposed = 0; cpubyte = 0; dmabyte = 0 }) (exposing l s memory)
+answer l c s memory =
+    pick (isReset c) (record { cause = c; exposed = 0; cpubyte = 0; dmabyte = 0 }) (exposing l s memory)
 
 -- the four answer bytes
 abbrev pub bytes : StepAnswer → List ℕ
@@ -48,7 +49,8 @@ stored l on a v memory = pick (lands l on a) (set memory a v) memory
 -- the CPU's store is done, then the DMA's
 unfoldable pub storing : Layout → Step → List ℕ → List ℕ
 storing l s memory =
-    stored l (s .dmaactive && s .dmawrites) (s .dmaaddress) (s .dmadata) (stored l (s .cpuwrites) (s .cpuaddress) (s .cpudata) memory)
+    stored l (s .dmaactive && s .dmawrites) (s .dmaaddress) (s .dmadata)
+    (stored l (s .cpuwrites) (s .cpuaddress) (s .cpudata) memory)
 
 -- the memory after a step: one that resets stores nothing
 unfoldable pub written : Layout → ℕ → Step → List ℕ → List ℕ

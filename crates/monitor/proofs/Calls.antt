@@ -38,7 +38,8 @@ pub admitted : (memory layout : List ℕ) (rest check : Answer) (r q : Checked)
 admitted memory layout rest check r q e a f =
     subst (Admits memory layout check) f (subst (λ (x : Answer). Admits memory layout x r) (row-settled rest check e) a)
 
-pub step-admitted : (memory layout b room : List ℕ) (l : Layout) → Admits memory layout (stepCheck b (length room)) (checked.Good l)
+pub step-admitted : (memory layout b room : List ℕ) (l : Layout)
+    → Admits memory layout (stepCheck b (length room)) (checked.Good l)
     → (stepSize ≤ length b) × (answerSize ≤ length room)
 step-admitted memory layout b room l e =
     let g = admitted-good memory layout (stepCheck b (length room)) l e in
@@ -46,14 +47,16 @@ step-admitted memory layout b room l e =
     let q = step-passed b (length room) (p .2) in
     (omega arith, q .1)
 
-pub refused : (memory layout b room : List ℕ) (r : Refusal) → Admits memory layout (traceCheck b (length room)) (checked.Refused r)
+pub refused : (memory layout b room : List ℕ) (r : Refusal)
+    → Admits memory layout (traceCheck b (length room)) (checked.Refused r)
     → Traces memory layout b room memory room (traced.Refused r)
 refused memory layout b room r e =
     let g = admitted-refused memory layout (traceCheck b (length room)) r e in
     record { answered = simp g; memory-left = simp g; room-left = simp g }
 
 pub step-judged : (memory layout b : List ℕ) (m : Monitor) (room memory′ room′ : List ℕ) (l : Layout) (r : Outcome)
-    → Admits memory layout (stepCheck b (length room)) (checked.Good l) → RunsStep l m (steps b 0) 0 memory room memory′ room′ r
+    → Admits memory layout (stepCheck b (length room)) (checked.Good l)
+    → RunsStep l m (steps b 0) 0 memory room memory′ room′ r
     → Steps memory layout b m room memory′ room′ (stepped.Judged (r .monitor))
 step-judged memory layout b m room memory′ room′ l r e a =
     let g = admitted-good memory layout (stepCheck b (length room)) l e in
@@ -65,7 +68,8 @@ step-judged memory layout b m room memory′ room′ l r e a =
     }
 
 pub step-refused : (memory layout b : List ℕ) (m : Monitor) (room : List ℕ) (r : Refusal)
-    → Admits memory layout (stepCheck b (length room)) (checked.Refused r) → Steps memory layout b m room memory room (stepped.Refused r)
+    → Admits memory layout (stepCheck b (length room)) (checked.Refused r)
+    → Steps memory layout b m room memory room (stepped.Refused r)
 step-refused memory layout b m room r e =
     let g = admitted-refused memory layout (stepCheck b (length room)) r e in
     record { answered = simp g; memory-left = simp g; room-left = simp g }
@@ -73,7 +77,8 @@ step-refused memory layout b m room r e =
 -- ---- the run alone
 
 -- one that has the memory and the room that it needs is not refused
-pub run-passes : (b memory : List ℕ) (room : ℕ) → length memory ≡ memoryBytes → answerSize * count b ≤ room → runCheck memory b room ≡ Done
+pub run-passes : (b memory : List ℕ) (room : ℕ) → length memory ≡ memoryBytes → answerSize * count b ≤ room
+    → runCheck memory b room ≡ Done
 unfolding runCheck
 run-passes b memory room h g = simp (eq-eqb (length memory) memoryBytes h, le-ltb room (answerSize * count b) g)
 
@@ -87,12 +92,16 @@ ran memory layout b room memory′ room′ l r e d =
     let c = run-passes b memory (length room) (p .0) (trace-passed b (length room) (p .2) .roomy) in
     let f = rw (g .1) at d in
     record {
-      answered = simp (g .0) (f .answered ∙ ap (λ (a : Answer). told a (totalsValues (totals (layoutOf layout) b memory))) c);
-      memory-left = simp (g .0) (f .memory-left ∙ ap (λ (a : Answer). lent a (memoryAfter (layoutOf layout) b memory) memory) c);
-      room-left = simp (g .0) (f .room-left ∙ ap (λ (a : Answer). lent a (roomAfter (layoutOf layout) b memory room) room) c);
+      answered = simp (g .0)
+          (f .answered ∙ ap (λ (a : Answer). told a (totalsValues (totals (layoutOf layout) b memory))) c);
+      memory-left = simp (g .0)
+          (f .memory-left ∙ ap (λ (a : Answer). lent a (memoryAfter (layoutOf layout) b memory) memory) c);
+      room-left = simp (g .0)
+          (f .room-left ∙ ap (λ (a : Answer). lent a (roomAfter (layoutOf layout) b memory room) room) c);
     }
 
-pub run-of : (l : Layout) (b memory room memory′ room′ : List ℕ) (r : Totals) → length memory ≡ memoryBytes → answerSize * count b ≤ length room
+pub run-of : (l : Layout) (b memory room memory′ room′ : List ℕ) (r : Totals) → length memory ≡ memoryBytes
+    → answerSize * count b ≤ length room
     → (r ≡ totals l b memory) × (memory′ ≡ memoryAfter l b memory) × (room′ ≡ roomAfter l b memory room)
     → Runs l b memory room memory′ room′ (traced.Judged r)
 run-of l b memory room memory′ room′ r h g d =
@@ -103,7 +112,8 @@ pub run-refused : (l : Layout) (b memory room : List ℕ) (r : Refusal) → runC
     → Runs l b memory room memory room (traced.Refused r)
 run-refused l b memory room r e = record { answered = simp e; memory-left = simp e; room-left = simp e }
 
-pub run-without-memory : (b memory : List ℕ) (room : ℕ) → (length memory ≡ memoryBytes → ⊥) → runCheck memory b room ≡ refusedAt memorySize 0
+pub run-without-memory : (b memory : List ℕ) (room : ℕ) → (length memory ≡ memoryBytes → ⊥)
+    → runCheck memory b room ≡ refusedAt memorySize 0
 unfolding runCheck
 run-without-memory b memory room h = simp (ne-eqb (length memory) memoryBytes h)
 

@@ -33,7 +33,8 @@ module _ (l : Layout) (m : Monitor) (s : Step) where
   breaks-resets k h e = cases (resets l m s) (λ r. r) (λ r. clash (numbered (broken l m s) k) e (passes-quiet r k h))
 
   -- so a test that would break one fails at a step that does not
-  pub passes-only : resets l m s ≡ false → (k : ℕ) → k < ruleNumbers → (t : Bool) → (t ≡ true → numbered (broken l m s) k ≡ true)
+  pub passes-only : resets l m s ≡ false → (k : ℕ) → k < ruleNumbers → (t : Bool)
+  → (t ≡ true → numbered (broken l m s) k ≡ true)
       → t ≡ false
   passes-only r k h t f = cases t (λ e. clash (numbered (broken l m s) k) (f e) (passes-quiet r k h)) (λ e. e)
 

@@ -21,10 +21,12 @@ use Rattle.traces.specs.Traces.{answerSize}
 pub length-answers : (l : Layout) (t : ℕ → Step) (x : State) (n : ℕ) → length (answers l t x n) ≡ answerSize * n
 unfolding answers
 length-answers l t x zero = refl
-length-answers l t x (suc n) = omega (arith, length-append (answers l t x n) (bytes (said l t x n)), length-answers l t x n)
+length-answers l t x (suc n) =
+    omega (arith, length-append (answers l t x n) (bytes (said l t x n)), length-answers l t x n)
 
 -- no run makes the memory longer or shorter
-pub length-before : (l : Layout) (t : ℕ → Step) (x : State) (n : ℕ) → length (before l t x n .memory) ≡ length (x .memory)
+pub length-before : (l : Layout) (t : ℕ → Step) (x : State) (n : ℕ)
+    → length (before l t x n .memory) ≡ length (x .memory)
 unfolding before
 length-before l t x zero = refl
 length-before l t x (suc n) = length-written l _ (t n) _ ∙ length-before l t x n

@@ -8,16 +8,17 @@ use Rattle.monitor.specs.Decisions.{resets}
 use Rattle.monitor.specs.Runs.{State, before, said, answers, resetting}
 
 -- a step of two runs at which the same stands and the same is done
-module _ (l : Layout) (t u : ℕ → Step) (x y : State) (i j : ℕ) (e : before l t x i ≡ before l u y j) (s : t i ≡ u j) where
-  pub same-next : before l t x (suc i) ≡ before l u y (suc j)
-  unfolding before
-  same-next = cc
+module _ (l : Layout) (t u : ℕ → Step) (x y : State) (i j : ℕ) (e : before l t x i ≡ before l u y j) (s : t i ≡ u j)
+  where
+    pub same-next : before l t x (suc i) ≡ before l u y (suc j)
+    unfolding before
+    same-next = cc
 
-  pub same-said : said l t x i ≡ said l u y j
-  same-said = cc
+    pub same-said : said l t x i ≡ said l u y j
+    same-said = cc
 
-  pub same-resets : resets l (before l t x i .monitor) (t i) ≡ resets l (before l u y j .monitor) (u j)
-  same-resets = cc
+    pub same-resets : resets l (before l t x i .monitor) (t i) ≡ resets l (before l u y j .monitor) (u j)
+    same-resets = cc
 
 -- n steps of two traces that agree on these
 pub record Alike (l : Layout) (t u : ℕ → Step) (x : State) (n : ℕ) : Type 0 where

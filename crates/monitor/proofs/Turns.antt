@@ -27,7 +27,8 @@ use Rattle.monitor.specs.Runs.{begin, before, said, answers, resetting, 
 use Rattle.monitor.specs.Inner.{replaced, RunsStep}
 use Rattle.monitor.proofs.Laws.{length-answers}
 
-pub record After (l : Layout) (b memory₀ room₀ : List ℕ) (i : ℕ) (memory room : List ℕ) (m : Monitor) (r : ℕ) : Type 0 where
+pub record After (l : Layout) (b memory₀ room₀ : List ℕ) (i : ℕ) (memory room : List ℕ) (m : Monitor) (r : ℕ) : Type 0
+    where
   pub remembered : m ≡ before l (steps b) (begin memory₀) i .monitor
   pub stored : memory ≡ before l (steps b) (begin memory₀) i .memory
   pub answered : room ≡ answers l (steps b) (begin memory₀) i ++ drop (answerSize * i) room₀
@@ -39,10 +40,12 @@ none l b memory room = record { remembered = refl; stored = refl; answered = ref
 
 -- the answers grow by those of one step, and what stands behind them stays
 grown : (a room₀ v : List ℕ) (i : ℕ) → length a ≡ answerSize * i
-    → replaced (a ++ drop (answerSize * i) room₀) (answerSize * i) answerSize v ≡ a ++ v ++ drop (answerSize * suc i) room₀
+    → replaced (a ++ drop (answerSize * i) room₀) (answerSize * i) answerSize v ≡ a ++ v ++ drop (answerSize * suc i)
+    room₀
 grown a room₀ v i e =
     let z : answerSize * suc i ≡ answerSize * i + answerSize = omega arith in
-    let back : drop (answerSize * i + answerSize) (a ++ drop (answerSize * i) room₀) ≡ drop (answerSize * i + answerSize) room₀ =
+    let back : drop (answerSize * i + answerSize) (a ++ drop (answerSize * i) room₀) ≡ drop
+    (answerSize * i + answerSize) room₀ =
     sym (drop-drop answerSize (answerSize * i) (a ++ drop (answerSize * i) room₀))
     ∙ ap (drop answerSize) (drop-at a (drop (answerSize * i) room₀) (answerSize * i) e)
     ∙ drop-drop answerSize (answerSize * i) room₀ in
@@ -55,7 +58,8 @@ module _ (l : Layout) (b memory₀ room₀ : List ℕ) (i : ℕ) (memory room : 
   same-said = cc (a .answered)
 
   same-cause : j .answer .cause ≡ cause l (before l (steps b) (begin memory₀) i .monitor) (steps b i)
-  same-cause = ap (λ (x : StepAnswer). x .cause) same-said ∙ answer-cause l _ (steps b i) (before l (steps b) (begin memory₀) i .memory)
+  same-cause = ap (λ (x : StepAnswer). x .cause) same-said
+      ∙ answer-cause l _ (steps b i) (before l (steps b) (begin memory₀) i .memory)
 
   more-remembered : j .monitor ≡ before l (steps b) (begin memory₀) (suc i) .monitor
   unfolding before
@@ -65,7 +69,8 @@ module _ (l : Layout) (b memory₀ room₀ : List ℕ) (i : ℕ) (memory room : 
   unfolding before
   more-stored = cc (a .memory-left)
 
-  more-answered : room′ ≡ answers l (steps b) (begin memory₀) i ++ bytes (said l (steps b) (begin memory₀) i) ++ drop (answerSize * suc i) room₀
+  more-answered : room′ ≡ answers l (steps b) (begin memory₀) i ++ bytes (said l (steps b) (begin memory₀) i) ++ drop
+  (answerSize * suc i) room₀
   more-answered =
       let before-it = answers l (steps b) (begin memory₀) i in
       a .room-left
@@ -73,7 +78,8 @@ module _ (l : Layout) (b memory₀ room₀ : List ℕ) (i : ℕ) (memory room : 
       ∙ grown before-it room₀ (bytes (j .answer)) i (length-answers l (steps b) (begin memory₀) i)
       ∙ ap (λ (x : StepAnswer). before-it ++ bytes x ++ drop (answerSize * suc i) room₀) same-said
 
-  pub more : (k : ℕ) → k ≡ pick (isReset (j .answer .cause)) 1 0 → After l b memory₀ room₀ (i + 1) memory′ room′ (j .monitor) (r + k)
+  pub more : (k : ℕ) → k ≡ pick (isReset (j .answer .cause)) 1 0
+  → After l b memory₀ room₀ (i + 1) memory′ room′ (j .monitor) (r + k)
   unfolding answers resetting
   more k ek =
       rw add-one
@@ -83,7 +89,8 @@ module _ (l : Layout) (b memory₀ room₀ : List ℕ) (i : ℕ) (memory room : 
         answered = more-answered;
         counted =
             ap (λ (q : ℕ). q + k) (d .counted)
-            ∙ ap (λ (q : ℕ). resetting l (steps b) (begin memory₀) i + q) (ek ∙ ap (λ (q : ℕ). pick (isReset q) 1 0) same-cause);
+            ∙ ap (λ (q : ℕ). resetting l (steps b) (begin memory₀) i + q)
+            (ek ∙ ap (λ (q : ℕ). pick (isReset q) 1 0) same-cause);
       })
 
 pub one-most : (t : Bool) → pick t 1 0 ≤ 1
@@ -103,8 +110,10 @@ whole l b memory₀ room₀ i memory room m r n d en ei =
     )
 
 -- a step whose parts have done what they promise
-pub step-run : (l : Layout) (m : Monitor) (b : List ℕ) (i : ℕ) (memory room memory′ room′ record₀ : List ℕ) (s : Step) (c : ℕ)
-    (a : StepAnswer) → stepSize * i + stepSize ≤ length b → GivesRecord b i record₀ → s ≡ stepOf record₀ → c ≡ cause l m s
+pub step-run : (l : Layout) (m : Monitor) (b : List ℕ) (i : ℕ) (memory room memory′ room′ record₀ : List ℕ) (s : Step)
+    (c : ℕ)
+    (a : StepAnswer) → stepSize * i + stepSize ≤ length b → GivesRecord b i record₀ → s ≡ stepOf record₀
+    → c ≡ cause l m s
     → Acts l c s memory memory′ a → room′ ≡ replaced room (answerSize * i) answerSize (bytes a)
     → RunsStep l m (steps b i) i memory room memory′ room′
     (record { answer = a; monitor = record { held = isReset c; lastpc = s .pc } })

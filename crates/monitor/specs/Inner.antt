@@ -16,7 +16,8 @@ abbrev pub replaced : List ℕ → ℕ → ℕ → List ℕ → List ℕ
 replaced room at n v = take at room ++ v ++ drop (at + n) room
 
 -- step i, which is s, from what the monitor m remembers; memory and room are lent, and memory′ and room′ are what stands there afterwards
-pub record RunsStep (l : Layout) (m : Monitor) (s : Step) (i : ℕ) (memory room memory′ room′ : List ℕ) (r : Outcome) : Type 0 where
+pub record RunsStep (l : Layout) (m : Monitor) (s : Step) (i : ℕ) (memory room memory′ room′ : List ℕ) (r : Outcome)
+    : Type 0 where
   pub answered : r .answer ≡ decidedAnswer l m s memory
   pub remembered : r .monitor ≡ next l m s
   pub memory-left : memory′ ≡ decidedMemory l m s memory

@@ -59,22 +59,27 @@ steppedRow (stepped.Refused r) = A.row (call.Refused r)
 pub record Traces (memory layout trace room memory′ room′ : List ℕ) (r : Traced) : Type 0 where
   pub answered :
       tracedRow r
-      ≡ told (callCheck memory layout (traceCheck trace (length room))) (totalsValues (totals (layoutOf layout) trace memory))
+      ≡ told (callCheck memory layout (traceCheck trace (length room)))
+      (totalsValues (totals (layoutOf layout) trace memory))
   pub memory-left :
       memory′
-      ≡ lent (callCheck memory layout (traceCheck trace (length room))) (memoryAfter (layoutOf layout) trace memory) memory
+      ≡ lent (callCheck memory layout (traceCheck trace (length room))) (memoryAfter (layoutOf layout) trace memory)
+      memory
   pub room-left :
       room′
-      ≡ lent (callCheck memory layout (traceCheck trace (length room))) (roomAfter (layoutOf layout) trace memory room) room
+      ≡ lent (callCheck memory layout (traceCheck trace (length room))) (roomAfter (layoutOf layout) trace memory room)
+      room
 
 -- `step`, from whatever the monitor m remembers
 pub record Steps (memory layout step : List ℕ) (m : Monitor) (room memory′ room′ : List ℕ) (r : Stepped) : Type 0 where
   pub answered :
       steppedRow r
-      ≡ told (callCheck memory layout (stepCheck step (length room))) (remembered (next (layoutOf layout) m (steps step 0)))
+      ≡ told (callCheck memory layout (stepCheck step (length room)))
+      (remembered (next (layoutOf layout) m (steps step 0)))
   pub memory-left :
       memory′
-      ≡ lent (callCheck memory layout (stepCheck step (length room))) (decidedMemory (layoutOf layout) m (steps step 0) memory) memory
+      ≡ lent (callCheck memory layout (stepCheck step (length room)))
+      (decidedMemory (layoutOf layout) m (steps step 0) memory) memory
   pub room-left :
       room′
       ≡ lent (callCheck memory layout (stepCheck step (length room)))

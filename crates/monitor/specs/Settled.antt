@@ -51,7 +51,8 @@ traces-settled memory layout trace room memory₁ room₁ memory₂ room₂ r q 
   p .room-left ∙ sym (p′ .room-left),
 )
 
-pub steps-settled : (memory layout step : List ℕ) (m : Monitor) (room memory₁ room₁ memory₂ room₂ : List ℕ) (r q : Stepped)
+pub steps-settled : (memory layout step : List ℕ) (m : Monitor) (room memory₁ room₁ memory₂ room₂ : List ℕ)
+    (r q : Stepped)
     → Steps memory layout step m room memory₁ room₁ r → Steps memory layout step m room memory₂ room₂ q
     → (r ≡ q) × (memory₁ ≡ memory₂) × (room₁ ≡ room₂)
 steps-settled memory layout step m room memory₁ room₁ memory₂ room₂ r q p p′ = (

@@ -28,7 +28,8 @@ unfolding first
 first-least zero p k h = absurd (not-suc-le-zero h)
 first-least (suc n) p zero h = cases (p 0) (λ e. absurd (not-suc-le-zero (simp e at h))) (λ e. e)
 first-least (suc n) p (suc k) h =
-    cases (p 0) (λ e. absurd (not-suc-le-zero (simp e at h))) (λ e. first-least n (λ j. p (suc j)) k (le-of-suc-le-suc (simp e at h)))
+    cases (p 0) (λ e. absurd (not-suc-le-zero (simp e at h)))
+    (λ e. first-least n (λ j. p (suc j)) k (le-of-suc-le-suc (simp e at h)))
 
 -- what a search has found that passed all before it
 pub first-is : (n : ℕ) (p : ℕ → Bool) (i : ℕ) → i < n → ((k : ℕ) → k < i → p k ≡ false) → p i ≡ true → first n p ≡ i
@@ -36,13 +37,15 @@ unfolding first
 first-is zero p i h f e = absurd (not-suc-le-zero h)
 first-is (suc n) p zero h f e = simp e
 first-is (suc n) p (suc i) h f e =
-    simp (f zero (omega arith)) (ap suc (first-is n (λ k. p (suc k)) i (le-of-suc-le-suc h) (λ k l. f (suc k) (omega arith)) e))
+    simp (f zero (omega arith))
+    (ap suc (first-is n (λ k. p (suc k)) i (le-of-suc-le-suc h) (λ k l. f (suc k) (omega arith)) e))
 
 -- what a search answers that passed all
 pub first-none : (n : ℕ) (p : ℕ → Bool) → ((k : ℕ) → k < n → p k ≡ false) → first n p ≡ n
 unfolding first
 first-none zero p f = refl
-first-none (suc n) p f = simp (f zero (omega arith)) (ap suc (first-none n (λ k. p (suc k)) (λ k l. f (suc k) (omega arith))))
+first-none (suc n) p f =
+    simp (f zero (omega arith)) (ap suc (first-none n (λ k. p (suc k)) (λ k l. f (suc k) (omega arith))))
 
 -- a check that refuses the first such: it passes exactly if there is none
 pub none-found : (n : ℕ) (p : ℕ → Bool) → ltb (first n p) n ≡ false → (k : ℕ) → k < n → p k ≡ false

@@ -41,12 +41,17 @@ abbrev pub Own : Lft → StepReader → Fml
 Own κ h = B κ .own h (T′.lowered h ∷ [])
 
 abbrev pub Apart : Lft → StepReader → Fml
-Apart κ h = owns (ShrSlice (named 0) κ u8 ∷ usize ∷ []) (h .trace, (h .place, tt)) (slice-val h ∷ [], (vint w64 (h .place) ∷ [], tt))
+Apart κ h =
+    owns (ShrSlice (named 0) κ u8 ∷ usize ∷ []) (h .trace, (h .place, tt))
+    (slice-val h ∷ [], (vint w64 (h .place) ∷ [], tt))
 
 -- a struct of a `&` is Copy: what it owns is had whole and apart
 pub both-ways : {M : Type 1} (𝓤 : URA M) (H : Heap 𝓤) (A : Atoms 𝓤) → Given 𝓤 H A → (κ : Lft) (h : StepReader)
     → ent 𝓤 (sem 𝓤 H A (Own κ h)) (sep 𝓤 (sem 𝓤 H A (Apart κ h)) (sem 𝓤 H A (Own κ h)))
 both-ways 𝓤 H A W κ h =
     qed W (‵ (Own κ h) ∷ []) ∵
-    use1 W (‵ (Own κ h) ⊛ ‵ (Own κ h)) (LL.copy (T.the-type (α κ)) (T′.the-copy (α κ)) 𝓤 H A W .twice h (T′.lowered h ∷ [])) $ split ! $
-    use1 W (given (T′.lowered h ∷ [] ≡ T′.lowered h ∷ []) (‵ (Apart κ h))) (own-open 𝓤 H A W (T.the-type (α κ)) (T′.the-laws (α κ)) (h .trace, (h .place, tt)) (T′.lowered h)) $ learn ! (λ _. done !)
+    use1 W (‵ (Own κ h) ⊛ ‵ (Own κ h))
+    (LL.copy (T.the-type (α κ)) (T′.the-copy (α κ)) 𝓤 H A W .twice h (T′.lowered h ∷ [])) $ split ! $
+    use1 W (given (T′.lowered h ∷ [] ≡ T′.lowered h ∷ []) (‵ (Apart κ h)))
+    (own-open 𝓤 H A W (T.the-type (α κ)) (T′.the-laws (α κ)) (h .trace, (h .place, tt)) (T′.lowered h)) $ learn !
+    (λ _. done !)

@@ -32,7 +32,8 @@ placeAfter (read.Refused r) p = p
 abbrev pub stepValues : Step → List ℕ
 stepValues s =
     s .pc ∷ s .cpuaddress ∷ s .dmaaddress
-    ∷ pick (s .cpureads) 1 0 ∷ pick (s .cpuwrites) 1 0 ∷ pick (s .interrupt) 1 0 ∷ pick (s .dmaactive) 1 0 ∷ pick (s .dmawrites) 1 0
+    ∷ pick (s .cpureads) 1 0 ∷ pick (s .cpuwrites) 1 0 ∷ pick (s .interrupt) 1 0 ∷ pick (s .dmaactive) 1 0 ∷ pick
+    (s .dmawrites) 1 0
     ∷ s .cpudata ∷ s .dmadata ∷ []
 
 -- 0 and a step, 0 alone at the end, or the refusal's number and place

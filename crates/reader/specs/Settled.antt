@@ -59,7 +59,8 @@ read-row-settled (read.Refused r) (read.Refused q) e = cc (row-settled (call.Ref
 pub reads-at-settled : (trace : List ℕ) (place : ℕ) (r q : Read) → ReadsAt trace place r → ReadsAt trace place q → r ≡ q
 reads-at-settled trace place r q p p′ = read-row-settled r q (p .answered ∙ sym (p′ .answered))
 
-pub advances-settled : (trace : List ℕ) (place : ℕ) (r q : Advance) → Advances trace place r → Advances trace place q → r ≡ q
+pub advances-settled : (trace : List ℕ) (place : ℕ) (r q : Advance) → Advances trace place r → Advances trace place q
+    → r ≡ q
 advances-settled trace place r q p p′ =
     let read = read-row-settled (r .read) (q .read) (p .answered ∙ sym (p′ .answered)) in
     let place = p .moved ∙ sym (p′ .moved) in

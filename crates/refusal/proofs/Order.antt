@@ -25,7 +25,8 @@ Refuses P a = (r : Refusal) → a ≡ Refused r → P (r .number)
 pub refuses-none : (P : ℕ → Type 0) → Refuses P Done
 refuses-none P r e = absurd (let z : _≡_ {A = ℕ} 0 1 = cc in omega arith)
 
-pub refuses-test : (P : ℕ → Type 0) (t : Bool) (n p : ℕ) (a : Answer) → P n → Refuses P a → Refuses P (pick t (refusedAt n p) a)
+pub refuses-test : (P : ℕ → Type 0) (t : Bool) (n p : ℕ) (a : Answer) → P n → Refuses P a
+    → Refuses P (pick t (refusedAt n p) a)
 refuses-test P true n p a h f r e = subst P (let z : n ≡ r .number = cc in z) h
 refuses-test P false n p a h f r e = f r e
 
@@ -37,6 +38,7 @@ pub refuses-then : (P : ℕ → Type 0) (a b : Answer) → Refuses P a → Refus
 refuses-then P a b f g = refuses-after P a b f (λ e. g)
 
 -- a test that fails refuses nothing
-pub refuses-untested : (P : ℕ → Type 0) (t : Bool) (n p : ℕ) (a : Answer) → t ≡ false → Refuses P a → Refuses P (pick t (refusedAt n p) a)
+pub refuses-untested : (P : ℕ → Type 0) (t : Bool) (n p : ℕ) (a : Answer) → t ≡ false → Refuses P a
+    → Refuses P (pick t (refusedAt n p) a)
 refuses-untested P true n p a e f = absurd (true≢false e)
 refuses-untested P false n p a e f = f

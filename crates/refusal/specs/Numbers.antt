@@ -66,5 +66,6 @@ fileSize = 15
 -- all of them, in the page's order
 abbrev pub numbers : List ℕ
 numbers =
-    memorySize ∷ layoutSize ∷ regionReversed ∷ regionSize ∷ zeroInCode ∷ regionsShare ∷ traceSize ∷ roomSize ∷ stepNotZero
+    memorySize ∷ layoutSize ∷ regionReversed ∷ regionSize ∷ zeroInCode ∷ regionsShare ∷ traceSize ∷ roomSize ∷
+    stepNotZero
     ∷ challengeNotGreater ∷ tokenDiffers ∷ lengthOrTotal ∷ contents ∷ segment ∷ fileSize ∷ []

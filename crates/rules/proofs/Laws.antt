@@ -24,7 +24,8 @@ none-of-three true b c = refl
 none-of-three false true c = refl
 none-of-three false false c = refl
 
-pub rule-6 : (l : Layout) (s : Step) → rule6 l s ≡ (within (l .cr) (s .pc) && s .cpuwrites && not (writable l (s .cpuaddress)))
+pub rule-6 : (l : Layout) (s : Step)
+    → rule6 l s ≡ (within (l .cr) (s .pc) && s .cpuwrites && not (writable l (s .cpuaddress)))
 rule-6 l s =
     ap (λ (t : Bool). within (l .cr) (s .pc) && s .cpuwrites && t)
     (none-of-three (within (l .xs) (s .cpuaddress)) (within (l .mr) (s .cpuaddress)) (within (l .ctr) (s .cpuaddress)))
@@ -47,7 +48,8 @@ lowest-none : (b : Broken) → lowest b ≡ 0 → first ruleNumbers (numbered b)
 lowest-none b e =
     cases (ltb (first ruleNumbers (numbered b)) ruleNumbers)
     (λ h. absurd (let z : first ruleNumbers (numbered b) ≡ 0 = simp h at e in omega (arith, found-above b)))
-    (λ h. let g = ltb-false (first ruleNumbers (numbered b)) ruleNumbers h in omega (arith, first-most ruleNumbers (numbered b)))
+    (λ h. let g = ltb-false (first ruleNumbers (numbered b)) ruleNumbers h in omega
+    (arith, first-most ruleNumbers (numbered b)))
 
 lowest-quiet : (b : Broken) → lowest b ≡ 0 → (k : ℕ) → k < ruleNumbers → numbered b k ≡ false
 lowest-quiet b e k h = first-least ruleNumbers (numbered b) k (omega (arith, lowest-none b e))
@@ -64,7 +66,8 @@ pub unheld : (l : Layout) (m : Monitor) (s : Step) → cause l m s ≡ 0 → rul
 unfolding cause
 unheld l m s e = past (rule15 m s) (lowest (broken l m s)) e .0
 
-pub quiet : (l : Layout) (m : Monitor) (s : Step) → cause l m s ≡ 0 → (k : ℕ) → k < ruleNumbers → numbered (broken l m s) k ≡ false
+pub quiet : (l : Layout) (m : Monitor) (s : Step) → cause l m s ≡ 0 → (k : ℕ) → k < ruleNumbers
+    → numbered (broken l m s) k ≡ false
 unfolding cause
 quiet l m s e = lowest-quiet (broken l m s) (past (rule15 m s) (lowest (broken l m s)) e .1)
 
@@ -101,4 +104,16 @@ unbroken-passes l m s e u = quiet-passes l m s e (λ k h. unbroken-quiet l m s u
 pub cause-lowest : (l : Layout) (m : Monitor) (s : Step) (k : ℕ) → rule15 m s ≡ false → k < ruleNumbers
     → numbered (broken l m s) k ≡ true → ((j : ℕ) → j < k → numbered (broken l m s) j ≡ false) → cause l m s ≡ k
 unfolding cause
-cause-lowest l m s k e h t f = simp e (found-or-none (broken l m s) k (first-is ruleNumbers (numbered (broken l m s)) k h f t) h)
+cause-lowest l m s k e h t f =
+    simp e (found-or-none (broken l m s) k (first-is ruleNumbers (numbered (broken l m s)) k h f t) h)
+
+-- no cause is over 15
+pub cause-most : (l : Layout) (m : Monitor) (s : Step) → cause l m s ≤ 15
+unfolding cause
+cause-most l m s =
+    let b = broken l m s in
+    cases (rule15 m s) (λ e. simp e (omega arith))
+    (λ e.
+    cases (ltb (first ruleNumbers (numbered b)) ruleNumbers)
+    (λ g. simp (e, g) (omega (arith, first-most ruleNumbers (numbered b))))
+    (λ g. simp (e, g) (omega arith)))

@@ -51,17 +51,34 @@ visit-lowest l m s e =
     let p = both (within (l .cr) (s .pc)) from (q .0) in
     let n = neither (s .interrupt) (s .dmaactive) (not-true _ (q .1)) in
     let r3 : rule3 l m s ≡ false =
-        simp (p .0) (entered (within (l .cr) (m .lastpc)) (eqb (s .pc) (l .cr .lo)) (p .1)) in
+    simp (p .0) (entered (within (l .cr) (m .lastpc)) (eqb (s .pc) (l .cr .lo)) (p .1)) in
     let r6 : rule6 l s ≡ false =
-        rule-6 l s ∙ simp (p .0) (lawful (s .cpuwrites) (writable l (s .cpuaddress)) (w .1)) in
-    unbroken-lowest l m s
-    (simp (p .0),
-    (simp (p .0, and-false),
-    (simp (r3, and-false),
-    (simp (n .0, and-false),
-    (simp (p .0),
-    (simp (r6, and-false),
-    (simp (n .1),
-    (simp (n .1),
-    (simp (n .1, and-false),
-    (simp (p .0, n .1, and-false), tt))))))))))
+    rule-6 l s ∙ simp (p .0) (lawful (s .cpuwrites) (writable l (s .cpuaddress)) (w .1)) in
+    unbroken-lowest l m s (
+      simp (p .0),
+      (
+        simp (p .0, and-false),
+        (
+          simp (r3, and-false),
+          (
+            simp (n .0, and-false),
+            (
+              simp (p .0),
+              (
+                simp (r6, and-false),
+                (
+                  simp (n .1),
+                  (
+                    simp (n .1),
+                    (
+                      simp (n .1, and-false),
+                      (simp (p .0, n .1, and-false), tt),
+                    ),
+                  ),
+                ),
+              ),
+            ),
+          ),
+        ),
+      ),
+    )

@@ -7,5 +7,6 @@ use Rattle.steps.specs.declared.Step.{Step}
 use Rattle.rules.specs.declared.Monitor.{Monitor}
 use Rattle.rules.specs.Promises.{GivesCause}
 
-pub gives-cause-settled : (l : Layout) (m : Monitor) (s : Step) (r q : ℕ) → GivesCause l m s r → GivesCause l m s q → r ≡ q
+pub gives-cause-settled : (l : Layout) (m : Monitor) (s : Step) (r q : ℕ) → GivesCause l m s r → GivesCause l m s q
+    → r ≡ q
 gives-cause-settled l m s = equation-settled

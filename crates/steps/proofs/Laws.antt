@@ -31,7 +31,8 @@ record Digits (a b c d e f : ℕ) : Type 0 where
   d4 : f / 2 ^ 4 % 2 ≡ e
   most : f < 32
 
-digits : (a b c d e f : ℕ) → a ≤ 1 → b ≤ 1 → c ≤ 1 → d ≤ 1 → e ≤ 1 → f ≡ a + 2 * b + 4 * c + 8 * d + 16 * e → Digits a b c d e f
+digits : (a b c d e f : ℕ) → a ≤ 1 → b ≤ 1 → c ≤ 1 → d ≤ 1 → e ≤ 1 → f ≡ a + 2 * b + 4 * c + 8 * d + 16 * e
+    → Digits a b c d e f
 digits a b c d e f ha hb hc hd he h = record {
   d0 = omega arith;
   d1 = omega arith;
@@ -48,8 +49,13 @@ flag-digits s =
     digits _ _ _ _ _ (flags s)
     (flag-most (s .cpureads)) (flag-most (s .cpuwrites)) (flag-most (s .interrupt))
     (flag-most (s .dmaactive)) (flag-most (s .dmawrites))
-    (omega (arith, flag-weight (s .cpuwrites) 2, flag-weight (s .interrupt) 4,
-    flag-weight (s .dmaactive) 8, flag-weight (s .dmawrites) 16))
+    (omega (
+      arith,
+      flag-weight (s .cpuwrites) 2,
+      flag-weight (s .interrupt) 4,
+      flag-weight (s .dmaactive) 8,
+      flag-weight (s .dmawrites) 16,
+    ))
 
 pub flags-most : (s : Step) → flags s < 32
 flags-most s = flag-digits s .most
@@ -66,8 +72,16 @@ tells-step s h =
     let i : bit 2 (flags s) ≡ s .interrupt = ap (λ (n : ℕ). eqb n 1) (d .d2) ∙ flag-is (s .interrupt) in
     let a : bit 3 (flags s) ≡ s .dmaactive = ap (λ (n : ℕ). eqb n 1) (d .d3) ∙ flag-is (s .dmaactive) in
     let t : bit 4 (flags s) ≡ s .dmawrites = ap (λ (n : ℕ). eqb n 1) (d .d4) ∙ flag-is (s .dmawrites) in
-    simp (halves (s .pc) (h .pc), halves (s .cpuaddress) (h .cpuaddress), halves (s .dmaaddress) (h .dmaaddress),
-    r, w, i, a, t)
+    simp (
+      halves (s .pc) (h .pc),
+      halves (s .cpuaddress) (h .cpuaddress),
+      halves (s .dmaaddress) (h .dmaaddress),
+      r,
+      w,
+      i,
+      a,
+      t,
+    )
 
 pub clean-encode : (s : Step) → clean (encode s) ≡ true
 unfolding encode

@@ -33,7 +33,8 @@ unfolding traceCheck
 trace-passed trace room e =
     let p = done-passed (not (eqb (length trace % stepSize) 0) || ltb mostSteps (count trace)) _ _ e in
     let q = done-passed (ltb room (answerSize * count trace)) (record { number = roomSize; place = 0 }) _ (p .1) in
-    let s = done-passed (ltb (firstUnclean trace) (count trace)) (record { number = stepNotZero; place = firstUnclean trace }) _ (q .1) in
+    let s = done-passed (ltb (firstUnclean trace) (count trace))
+    (record { number = stepNotZero; place = firstUnclean trace }) _ (q .1) in
     let t = neither (not (eqb (length trace % stepSize) 0)) (ltb mostSteps (count trace)) (p .0) in
     let w = eqb-true (length trace % stepSize) 0 (not-false _ (t .0)) in
     record {
@@ -43,7 +44,8 @@ trace-passed trace room e =
       clean = none-found (count trace) (unclean trace) (s .0);
     }
 
-pub step-passed : (step : List ℕ) (room : ℕ) → stepCheck step room ≡ Done → (length step ≡ stepSize) × (answerSize ≤ room)
+pub step-passed : (step : List ℕ) (room : ℕ) → stepCheck step room ≡ Done → (length step ≡ stepSize)
+    × (answerSize ≤ room)
 unfolding stepCheck
 step-passed step room e =
     let p = done-passed (not (eqb (length step) stepSize)) _ _ e in

@@ -18,5 +18,6 @@ one-more b r p k h g e =
     ∙ ap (λ (y : ℕ). take k (drop p b) ++ (y ∷ [])) (sym (getD-drop p b k 0))
     ∙ sym (take-suc (drop p b) k 0 l))
 
-pub all-read : (b r : List ℕ) (p q k n : ℕ) → k ≡ n → length r ≡ n → p ≡ q → take k r ≡ take k (drop p b) → r ≡ take n (drop q b)
+pub all-read : (b r : List ℕ) (p q k n : ℕ) → k ≡ n → length r ≡ n → p ≡ q → take k r ≡ take k (drop p b)
+    → r ≡ take n (drop q b)
 all-read b r p q k n ek er ep e = cc (take-all n r (omega arith))

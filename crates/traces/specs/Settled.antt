@@ -8,7 +8,8 @@ use Rattle.refusal.specs.Settled.{row-settled}
 use Rattle.refusal.specs.declared.Answer.{Answer}
 use Rattle.traces.specs.Promises.{GivesRecord, Misfits, Fits, StepFits}
 
-pub gives-record-settled : (trace : List ℕ) (n : ℕ) (r q : List ℕ) → GivesRecord trace n r → GivesRecord trace n q → r ≡ q
+pub gives-record-settled : (trace : List ℕ) (n : ℕ) (r q : List ℕ) → GivesRecord trace n r → GivesRecord trace n q
+    → r ≡ q
 gives-record-settled trace n = equation-settled
 
 pub misfits-settled : (trace : List ℕ) (r q : Bool) → Misfits trace r → Misfits trace q → r ≡ q

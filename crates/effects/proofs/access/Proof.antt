@@ -27,10 +27,16 @@ same-length c = search needs
 
 returns : tie.Need-returns
 unfolding exposing storing
-returns c = (
-  simp (c .before .before .before .before .before .before .before .before .before .before .before .before .before .before .before .before .before .holds .ensures, c .before .before .before .before .before .before .before .before .before .before .before .before .exposure .ensures, c .before .before .before .before .before .before .before .before .before .before .peek .ensures, c .before .before .before .before .before .before .before .before .peek2 .ensures),
-  simp (c .before .before .put2 .ensures, c .before .before .before .before .before .before .put .ensures),
-)
+returns c =
+    let at-put2 = c .before .before in
+    let at-put = at-put2 .before .before .before .before in
+    let at-peek2 = at-put .before .before in
+    let at-peek = at-peek2 .before .before in
+    let at-exposure = at-peek .before .before in
+    let at-holds = at-exposure .before .before .before .before .before in (
+      simp (at-holds .holds .ensures, at-exposure .exposure .ensures, at-peek .peek .ensures, at-peek2 .peek2 .ensures),
+      simp (at-put2 .put2 .ensures, at-put .put .ensures),
+    )
 
 pub access-spec : {M : Type 1} → statement M
 access-spec =

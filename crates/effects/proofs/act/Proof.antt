@@ -14,8 +14,13 @@ same-length c = search needs
 returns : tie.Need-returns
 unfolding answer written
 returns c =
-    let e = eq-eqb _ _ (c .before .before .before .before .if1 .taken) in
-    record { answered = simp e (c .before .before .perform .ensures .0); memory-left = simp e (c .before .before .perform .ensures .1) }
+    let at-perform = c .before .before in
+    let at-if1 = at-perform .before .before in
+    let e = eq-eqb _ _ (at-if1 .if1 .taken) in
+    record {
+      answered = simp e (at-perform .perform .ensures .0);
+      memory-left = simp e (at-perform .perform .ensures .1);
+    }
 
 returns-2 : tie.Need-returns-2
 unfolding answer written

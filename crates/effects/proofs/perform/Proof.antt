@@ -16,9 +16,13 @@ same-length c = search needs
 
 returns : tie.Need-returns
 returns c =
-    let h = c .before .before .before .before .before .before .before .before .args in
-    let q = quiet (h .l) (h .s) (h .memory .now) _ (c .before .before .before .before .before .before .holds .ensures) (c .before .before .before .before .if1 .taken) in
-    (q .0, c .before .before .put .ensures ∙ q .1)
+    let at-put = c .before .before in
+    let at-if1 = at-put .before .before in
+    let at-holds = at-if1 .before .before in
+    let at-args = at-holds .before .before in
+    let h = at-args .args in
+    let q = quiet (h .l) (h .s) (h .memory .now) _ (at-holds .holds .ensures) (at-if1 .if1 .taken) in
+    (q .0, at-put .put .ensures ∙ q .1)
 
 access-requires : tie.Need-access-requires
 access-requires c κs = search needs

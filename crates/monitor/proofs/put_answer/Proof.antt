@@ -31,7 +31,9 @@ same-length : tie.Need-same-length
 same-length c = search needs
 
 returns : tie.Need-returns
-returns c = four (c .args .room .now) (c .args .at) (c .args .a .cause) (c .args .a .exposed) (c .args .a .cpubyte) (c .args .a .dmabyte) (c .pre)
+returns c =
+    four (c .args .room .now) (c .args .at) (c .args .a .cause) (c .args .a .exposed) (c .args .a .cpubyte)
+    (c .args .a .dmabyte) (c .pre)
 
 pub put-answer-spec : {M : Type 1} → statement M
 put-answer-spec =

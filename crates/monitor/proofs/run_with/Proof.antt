@@ -6,16 +6,20 @@ use Rattle.monitor.proofs.run_with.Tie as tie
 
 returns : tie.Need-returns
 returns c =
-    let h = c .before .before .before .before .args in
-    run-refused (h .l) (h .trace .now) (h .memory .now) (h .room .now) _ (run-without-memory (h .trace .now) (h .memory .now) _ (c .if1 .taken))
+    let at-args = c .before .before .before .before in
+    let h = at-args .args in
+    run-refused (h .l) (h .trace .now) (h .memory .now) (h .room .now) _
+    (run-without-memory (h .trace .now) (h .memory .now) _ (c .if1 .taken))
 
 mul-if2 : tie.Need-mul-if2
 mul-if2 c = search needs
 
 returns-2 : tie.Need-returns-2
 returns-2 c =
-    let h = c .before .before .before .before .before .args in
-    run-refused (h .l) (h .trace .now) (h .memory .now) (h .room .now) _ (run-without-room (h .trace .now) (h .memory .now) _ (c .before .if1 .left) (c .if2 .taken))
+    let at-args = c .before .before .before .before .before in
+    let h = at-args .args in
+    run-refused (h .l) (h .trace .now) (h .memory .now) (h .room .now) _
+    (run-without-room (h .trace .now) (h .memory .now) _ (c .before .if1 .left) (c .if2 .taken))
 
 run-requires : tie.Need-run-requires
 run-requires c κs = search needs
@@ -28,8 +32,13 @@ same-length-2 c = search needs
 
 returns-3 : tie.Need-returns-3
 returns-3 c =
-    let h = c .before .before .before .before .before .before .before .before .before .before .before .before .args in
-    run-of (h .l) (h .trace .now) (h .memory .now) (h .room .now) _ _ _ (c .before .before .before .before .before .before .before .before .if1 .left) (c .before .before .before .before .before .before .before .if2 .left) (c .before .before .before .before .run .ensures)
+    let at-run = c .before .before .before .before in
+    let at-if2 = at-run .before .before .before in
+    let at-if1 = at-if2 .before in
+    let at-args = at-if1 .before .before .before .before in
+    let h = at-args .args in
+    run-of (h .l) (h .trace .now) (h .memory .now) (h .room .now) _ _ _ (at-if1 .if1 .left) (at-if2 .if2 .left)
+    (at-run .run .ensures)
 
 pub run-with-spec : {M : Type 1} → statement M
 run-with-spec =

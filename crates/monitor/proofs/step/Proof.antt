@@ -15,12 +15,14 @@ enum-known-l c = search needs
 
 run-step-requires : tie.Need-run-step-requires
 run-step-requires c κs =
-    let l = c .before .before .before in
+    let at-there = c .before .before .before in
+    let l = at-there in
     let a = l .before .before in
     let f = a .before .before in
     let h = f .before .before .before .before .before .args in
     step-admitted (h .memory .now) (h .layout .now) (h .step .now) (h .room .now) _
-    (admitted (h .memory .now) (h .layout .now) _ _ _ _ (f .step-fits .ensures .answered) (a .admit .ensures) (l .l .given .1))
+    (admitted (h .memory .now) (h .layout .now) _ _ _ _ (f .step-fits .ensures .answered) (a .admit .ensures)
+    (l .l .given .1))
 
 enum-known-r : tie.Need-enum-known-r
 enum-known-r c = search needs
@@ -33,13 +35,15 @@ same-length-2 c = search needs
 
 returns : tie.Need-returns
 returns c =
-    let r = c .before .before .before .before .before in
+    let at-there = c .before .before .before .before .before in
+    let r = at-there in
     let l = r .before .before .before .before in
     let a = l .before .before in
     let f = a .before .before in
     let h = f .before .before .before .before .before .args in
     step-judged (h .memory .now) (h .layout .now) (h .step .now) (h .monitor) (h .room .now) _ _ _ _
-    (admitted (h .memory .now) (h .layout .now) _ _ _ _ (f .step-fits .ensures .answered) (a .admit .ensures) (l .l .given .1))
+    (admitted (h .memory .now) (h .layout .now) _ _ _ _ (f .step-fits .ensures .answered) (a .admit .ensures)
+    (l .l .given .1))
     (r .run-step .ensures)
 
 same-length-3 : tie.Need-same-length-3
@@ -47,11 +51,13 @@ same-length-3 c = search needs
 
 returns-2 : tie.Need-returns-2
 returns-2 c =
-    let a = c .before .before .before in
+    let at-there = c .before .before .before in
+    let a = at-there in
     let f = a .before .before in
     let h = f .before .before .before .before .before .args in
     step-refused (h .memory .now) (h .layout .now) (h .step .now) (h .monitor) (h .room .now) _
-    (admitted (h .memory .now) (h .layout .now) _ _ _ _ (f .step-fits .ensures .answered) (a .admit .ensures) (c .before .r .given .1))
+    (admitted (h .memory .now) (h .layout .now) _ _ _ _ (f .step-fits .ensures .answered) (a .admit .ensures)
+    (c .before .r .given .1))
 
 pub step-spec : {M : Type 1} → statement M
 step-spec =

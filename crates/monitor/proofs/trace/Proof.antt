@@ -27,16 +27,28 @@ same-length-2 c = search needs
 
 returns : tie.Need-returns
 returns c =
-    let h = c .before .before .before .before .before .before .before .before .before .before .before .before .before .before .before .before .before .args in
-    ran (h .memory .now) (h .layout .now) (h .trace .now) (h .room .now) _ _ _ _ (admitted (h .memory .now) (h .layout .now) _ _ _ _ (c .before .before .before .before .before .before .before .before .before .before .before .before .fits2 .ensures .answered) (c .before .before .before .before .before .before .before .before .before .before .admit .ensures) (c .before .before .before .before .before .before .before .before .l .given .1)) (c .before .before .before .before .run-with .ensures)
+    let at-run-with = c .before .before .before .before in
+    let at-l = at-run-with .before .before .before .before in
+    let at-admit = at-l .before .before in
+    let at-fits2 = at-admit .before .before in
+    let at-args = at-fits2 .before .before .before .before .before in
+    let h = at-args .args in
+    ran (h .memory .now) (h .layout .now) (h .trace .now) (h .room .now) _ _ _ _
+    (admitted (h .memory .now) (h .layout .now) _ _ _ _ (at-fits2 .fits2 .ensures .answered) (at-admit .admit .ensures)
+    (at-l .l .given .1)) (at-run-with .run-with .ensures)
 
 same-length-3 : tie.Need-same-length-3
 same-length-3 c = search needs
 
 returns-2 : tie.Need-returns-2
 returns-2 c =
-    let h = c .before .before .before .before .before .before .before .before .before .before .args in
-    refused (h .memory .now) (h .layout .now) (h .trace .now) (h .room .now) _ (admitted (h .memory .now) (h .layout .now) _ _ _ _ (c .before .before .before .before .before .fits2 .ensures .answered) (c .before .before .before .admit .ensures) (c .before .r .given .1))
+    let at-admit = c .before .before .before in
+    let at-fits2 = at-admit .before .before in
+    let at-args = at-fits2 .before .before .before .before .before in
+    let h = at-args .args in
+    refused (h .memory .now) (h .layout .now) (h .trace .now) (h .room .now) _
+    (admitted (h .memory .now) (h .layout .now) _ _ _ _ (at-fits2 .fits2 .ensures .answered) (at-admit .admit .ensures)
+    (c .before .r .given .1))
 
 pub trace-spec : {M : Type 1} → statement M
 trace-spec =

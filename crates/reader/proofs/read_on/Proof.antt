@@ -13,9 +13,15 @@ enum-told c = search needs
 
 add-t5 : tie.Need-add-t5
 add-t5 c =
-    let h = c .before .before .before .before .args in
+    let at-step-at = c .before .before in
+    let at-args = at-step-at .before .before in
+    let h = at-args .args in
     record {
-      fits = omega (arith, step-within (h .trace .now) (h .at) _ (read-at (h .trace .now) (h .at) _ _ (c .before .before .step-at .ensures) (c .enum-told .given .1)));
+      fits = omega (
+        arith,
+        step-within (h .trace .now) (h .at) _
+            (read-at (h .trace .now) (h .at) _ _ (at-step-at .step-at .ensures) (c .enum-told .given .1)),
+      );
     }
 
 enum-told-2 : tie.Need-enum-told-2

@@ -31,8 +31,20 @@ holds-requires-9 c κs = tt
 
 returns : tie.Need-returns
 returns c =
-    let x = c .before .before .before .before .before .before .before .before .before .before .before .before .before .before .before .before in
-    simp (x .holds9 .ensures, x .before .holds8 .ensures, x .before .before .holds7 .ensures, x .before .before .before .holds6 .ensures, x .before .before .before .before .holds5 .ensures, x .before .before .before .before .before .holds4 .ensures, x .before .before .before .before .before .before .holds3 .ensures, x .before .before .before .before .before .before .before .holds2 .ensures, x .before .before .before .before .before .before .before .before .holds .ensures)
+    let behind = c .before .before .before .before .before .before .before .before in
+    let at-there = behind .before .before .before .before .before .before .before .before in
+    let x = at-there in
+    simp (
+      x .holds9 .ensures,
+      x .before .holds8 .ensures,
+      x .before .before .holds7 .ensures,
+      x .before .before .before .holds6 .ensures,
+      x .before .before .before .before .holds5 .ensures,
+      x .before .before .before .before .before .holds4 .ensures,
+      x .before .before .before .before .before .before .holds3 .ensures,
+      x .before .before .before .before .before .before .before .holds2 .ensures,
+      x .before .before .before .before .before .before .before .before .holds .ensures,
+    )
 
 pub breaks-spec : {M : Type 1} → statement M
 breaks-spec =

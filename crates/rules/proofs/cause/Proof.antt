@@ -16,8 +16,11 @@ apart-requires c κs = tt
 returns-2 : tie.Need-returns-2
 unfolding cause
 returns-2 c =
-    let h = c .before .before .before .before .before .args in
-    simp (c .before .before .if1 .left) (sym (apart-lowest (h .l) (h .m) (h .s) (not-true _ (sym (c .before .apart .ensures) ∙ c .if2 .taken))))
+    let at-if1 = c .before .before in
+    let at-args = at-if1 .before .before .before in
+    let h = at-args .args in
+    simp (at-if1 .if1 .left)
+    (sym (apart-lowest (h .l) (h .m) (h .s) (not-true _ (sym (c .before .apart .ensures) ∙ c .if2 .taken))))
 
 visits-requires : tie.Need-visits-requires
 visits-requires c κs = tt
@@ -25,8 +28,11 @@ visits-requires c κs = tt
 returns-3 : tie.Need-returns-3
 unfolding cause
 returns-3 c =
-    let h = c .before .before .before .before .before .before .before .args in
-    simp (c .before .before .before .before .if1 .left) (sym (visit-lowest (h .l) (h .m) (h .s) (sym (c .before .visits .ensures) ∙ c .if3 .taken)))
+    let at-if1 = c .before .before .before .before in
+    let at-args = at-if1 .before .before .before in
+    let h = at-args .args in
+    simp (at-if1 .if1 .left)
+    (sym (visit-lowest (h .l) (h .m) (h .s) (sym (c .before .visits .ensures) ∙ c .if3 .taken)))
 
 breaks-requires : tie.Need-breaks-requires
 breaks-requires c κs = tt
@@ -36,8 +42,11 @@ lowest-requires c κs = tt
 
 returns-4 : tie.Need-returns-4
 unfolding cause
-returns-4 c = simp (c .lowest .ensures, c .before .breaks .ensures, c .before .before .before .before .before .before .if1 .left)
+returns-4 c =
+    let at-if1 = c .before .before .before .before .before .before in
+    simp (c .lowest .ensures, c .before .breaks .ensures, at-if1 .if1 .left)
 
 pub cause-spec : {M : Type 1} → statement M
 cause-spec =
-    tie.close (tie.spec returns apart-requires returns-2 visits-requires returns-3 breaks-requires lowest-requires returns-4)
+    tie.close (tie.spec returns apart-requires returns-2 visits-requires returns-3 breaks-requires lowest-requires
+    returns-4)

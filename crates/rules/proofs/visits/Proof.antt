@@ -18,7 +18,19 @@ holds-requires-5 : tie.Need-holds-requires-5
 holds-requires-5 c κs = tt
 
 returns : tie.Need-returns
-returns c = simp (c .before .before .holds5 .ensures, c .before .before .before .holds4 .ensures, c .before .before .before .before .holds3 .ensures, c .before .before .before .before .before .holds2 .ensures, c .before .before .before .before .before .before .before .before .holds .ensures)
+returns c =
+    let at-holds5 = c .before .before in
+    let at-holds4 = at-holds5 .before in
+    let at-holds3 = at-holds4 .before in
+    let at-holds2 = at-holds3 .before in
+    let at-holds = at-holds2 .before .before .before in
+    simp (
+      at-holds5 .holds5 .ensures,
+      at-holds4 .holds4 .ensures,
+      at-holds3 .holds3 .ensures,
+      at-holds2 .holds2 .ensures,
+      at-holds .holds .ensures,
+    )
 
 pub visits-spec : {M : Type 1} → statement M
 visits-spec =

@@ -43,7 +43,9 @@ array-read-t47 c = lit< tt
 
 returns : tie.Need-returns
 unfolding stepOf
-returns c = told _ _ _ _ _ _ _ _ _ _ _ _ _ (c .before .before .word .ensures) (c .before .word2 .ensures) (c .word3 .ensures)
+returns c =
+    let at-word = c .before .before in
+    told _ _ _ _ _ _ _ _ _ _ _ _ _ (at-word .word .ensures) (c .before .word2 .ensures) (c .word3 .ensures)
 
 pub decode-spec : {M : Type 1} → statement M
 decode-spec =

@@ -27,8 +27,11 @@ clean-requires c κs = search needs
 
 returns : tie.Need-returns Inv-loop μ-loop
 returns c =
-    let h = c .before .before .before .before .loop in
-    passed-found (h .inv .1) (omega arith) (ap not (ap clean (sym (c .before .before .step-bytes .ensures)) ∙ sym (c .before .clean .ensures)) ∙ c .if1 .taken)
+    let at-step-bytes = c .before .before in
+    let at-loop = at-step-bytes .before .before in
+    let h = at-loop .loop in
+    passed-found (h .inv .1) (omega arith)
+    (ap not (ap clean (sym (at-step-bytes .step-bytes .ensures)) ∙ sym (c .before .clean .ensures)) ∙ c .if1 .taken)
 
 add-k : tie.Need-add-k Inv-loop μ-loop
 add-k c = omega arith
@@ -38,8 +41,13 @@ loop-less c = omega arith
 
 loop-again : tie.Need-loop-again Inv-loop μ-loop
 loop-again c =
-    let h = c .before .before .before .before .loop in
-    (refl, passed-more (h .inv .1) (omega arith) (ap not (ap clean (sym (c .before .before .step-bytes .ensures)) ∙ sym (c .before .clean .ensures)) ∙ c .if1 .left))
+    let at-step-bytes = c .before .before in
+    let at-loop = at-step-bytes .before .before in
+    let h = at-loop .loop in (
+      refl,
+      passed-more (h .inv .1) (omega arith)
+          (ap not (ap clean (sym (at-step-bytes .step-bytes .ensures)) ∙ sym (c .before .clean .ensures)) ∙ c .if1 .left),
+    )
 
 returns-2 : tie.Need-returns-2 Inv-loop μ-loop
 returns-2 c = passed-all (c .before .loop .inv .1) (omega arith)

@@ -40,10 +40,15 @@ refused-at-requires c κs = search needs
 returns-3 : tie.Need-returns-3
 unfolding traceCheck
 returns-3 c =
-    let y = c .before .before .before in
+    let at-first-unclean = c .before .before in
+    let at-there = at-first-unclean .before in
+    let y = at-there in
     let m = sym (y .before .before .misfits .ensures) ∙ y .before .if1 .left in
-    let f = sym (c .before .before .first-unclean .ensures) in
-    record { answered = c .refused-at .ensures ∙ simp (m, le-ltb _ _ (y .if2 .left), f, lt-ltb _ _ (c .before .if3 .taken)) }
+    let f = sym (at-first-unclean .first-unclean .ensures) in
+    record {
+      answered = c .refused-at .ensures
+          ∙ simp (m, le-ltb _ _ (y .if2 .left), f, lt-ltb _ _ (c .before .if3 .taken));
+    }
 
 returns-4 : tie.Need-returns-4
 unfolding traceCheck

@@ -20,8 +20,12 @@ fits-requires c κs = tt
 
 returns-2 : tie.Need-returns-2
 returns-2 c =
-    let h = c .before .before .before .args in
-    record { answered = c .fits2 .ensures .answered ∙ ap row (step-checked (h .step .now) (h .room) (c .before .if1 .left)) }
+    let at-args = c .before .before .before in
+    let h = at-args .args in
+    record {
+      answered = c .fits2 .ensures .answered
+          ∙ ap row (step-checked (h .step .now) (h .room) (c .before .if1 .left));
+    }
 
 pub step-fits-spec : {M : Type 1} → statement M
 step-fits-spec = tie.close (tie.spec refused-requires returns fits-requires returns-2)

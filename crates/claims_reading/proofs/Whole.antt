@@ -97,11 +97,9 @@ unfolding traceCheck
 not-misfits b room e = done-passed (misfits b) _ _ e .0
 
 -- a trace that is judged has passed
-judged : (memory layout b room memory′ room′ : List ℕ) (t : Totals)
-    → Traces memory layout b room memory′ room′ (traced.Judged t)
+judged : (memory layout b room memory′ room′ : List ℕ) (t : Totals) → Traces memory layout b room memory′ room′ (traced.Judged t)
     → (callCheck memory layout (traceCheck b (length room)) ≡ call.Done) × (t ≡ totals (layoutOf layout) b memory)
-judged memory layout b room memory′ room′ t p =
-    traced-judged (callCheck memory layout (traceCheck b (length room))) t _ (p .answered)
+judged memory layout b room memory′ room′ t p = traced-judged (callCheck memory layout (traceCheck b (length room))) t _ (p .answered)
 
 pub reads-whole : ReadsWhole
 reads-whole memory layout trace room memory′ room′ t p reader said g =
@@ -123,12 +121,10 @@ module _ (said : ℕ → Read) where
     as-many : n ≡ m
     as-many =
         cases (ltb n m) (λ e. absurd (no-fewer n m s u a b (ltb-true n m e)))
-        (λ e. cases (ltb m n) (λ f. absurd (no-fewer m n u s b a (ltb-true m n f)))
-        (λ f. omega (arith, ltb-false n m e, ltb-false m n f)))
+        (λ e. cases (ltb m n) (λ f. absurd (no-fewer m n u s b a (ltb-true m n f))) (λ f. omega (arith, ltb-false n m e, ltb-false m n f)))
 
     same-step : (k : ℕ) → k < n → s k ≡ u k
-    same-step k h = let e : read.Step (s k) ≡ read.Step (u k) = sym (a .handed k h)
-    ∙ b .handed k (omega (arith, as-many)) in cc
+    same-step k h = let e : read.Step (s k) ≡ read.Step (u k) = sym (a .handed k h) ∙ b .handed k (omega (arith, as-many)) in cc
 
 pub judges-what-is-read : JudgesWhatIsRead
 judges-what-is-read memory layout trace room memory′ room′ t p reader said g n s a =
@@ -138,8 +134,7 @@ judges-what-is-read memory layout trace room memory′ room′ t p reader said g
     let w = reads-whole memory layout trace room memory′ room′ t p reader said g in
     let e = as-many said (t .steps) n (steps b) s w a in
     let c : count b ≡ n = sym (ap (λ (u : Totals). u .steps) (d .1)) ∙ e in
-    let k = alike l (steps b) s (begin memory) n
-        (λ i h. same-step said (t .steps) n (steps b) s w a i (omega (arith, e))) in (
+    let k = alike l (steps b) s (begin memory) n (λ i h. same-step said (t .steps) n (steps b) s w a i (omega (arith, e))) in (
       e,
       ap (λ (u : Totals). u .resets) (d .1) ∙ ap (resetting l (steps b) (begin memory)) c ∙ k .counted,
       (simp (d .0) at (p .memory-left))
@@ -158,5 +153,4 @@ reads-to-unclean trace reader said g m h =
 
 pub reads-nothing : ReadsNothing
 reads-nothing trace reader said g m k =
-    hands-out trace reader said g 0 (steps (now trace)) _ (λ j l. absurd (omega arith)) (read-nothing (now trace) 0 m)
-    refl .afterwards k (omega arith)
+    hands-out trace reader said g 0 (steps (now trace)) _ (λ j l. absurd (omega arith)) (read-nothing (now trace) 0 m) refl .afterwards k (omega arith)

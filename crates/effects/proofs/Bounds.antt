@@ -38,7 +38,7 @@ module _ (l : Layout) (on : Bool) (a v : ℕ) (memory : List ℕ) where
       (λ o. simp o)
 
   module _ (e : (not on || leb (length memory) a) ≡ false) (c k : Bool) (ec : c ≡ within (l .cr) a)
-  (ek : k ≡ within (l .kr) a) where
+      (ek : k ≡ within (l .kr) a) where
     pub landed : (not c && not k) ≡ true → set memory a v ≡ stored l on a v memory
     unfolding stored
     landed t = simp (inside on (length memory) a e .0, simp (ec, ek) at t)

@@ -34,7 +34,7 @@ module _ (l : Layout) (m : Monitor) (s : Step) where
 
   -- so a test that would break one fails at a step that does not
   pub passes-only : resets l m s ≡ false → (k : ℕ) → k < ruleNumbers → (t : Bool)
-  → (t ≡ true → numbered (broken l m s) k ≡ true)
+      → (t ≡ true → numbered (broken l m s) k ≡ true)
       → t ≡ false
   passes-only r k h t f = cases t (λ e. clash (numbered (broken l m s) k) (f e) (passes-quiet r k h)) (λ e. e)
 

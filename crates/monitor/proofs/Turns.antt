@@ -28,11 +28,11 @@ use Rattle.monitor.specs.Inner.{replaced, RunsStep}
 use Rattle.monitor.proofs.Laws.{length-answers}
 
 pub record After (l : Layout) (b memory₀ room₀ : List ℕ) (i : ℕ) (memory room : List ℕ) (m : Monitor) (r : ℕ) : Type 0
-    where
-  pub remembered : m ≡ before l (steps b) (begin memory₀) i .monitor
-  pub stored : memory ≡ before l (steps b) (begin memory₀) i .memory
-  pub answered : room ≡ answers l (steps b) (begin memory₀) i ++ drop (answerSize * i) room₀
-  pub counted : r ≡ resetting l (steps b) (begin memory₀) i
+  where
+    pub remembered : m ≡ before l (steps b) (begin memory₀) i .monitor
+    pub stored : memory ≡ before l (steps b) (begin memory₀) i .memory
+    pub answered : room ≡ answers l (steps b) (begin memory₀) i ++ drop (answerSize * i) room₀
+    pub counted : r ≡ resetting l (steps b) (begin memory₀) i
 
 pub none : (l : Layout) (b memory room : List ℕ) → After l b memory room 0 memory room start 0
 unfolding before answers resetting
@@ -70,7 +70,7 @@ module _ (l : Layout) (b memory₀ room₀ : List ℕ) (i : ℕ) (memory room : 
   more-stored = cc (a .memory-left)
 
   more-answered : room′ ≡ answers l (steps b) (begin memory₀) i ++ bytes (said l (steps b) (begin memory₀) i) ++ drop
-  (answerSize * suc i) room₀
+      (answerSize * suc i) room₀
   more-answered =
       let before-it = answers l (steps b) (begin memory₀) i in
       a .room-left
@@ -79,7 +79,7 @@ module _ (l : Layout) (b memory₀ room₀ : List ℕ) (i : ℕ) (memory room : 
       ∙ ap (λ (x : StepAnswer). before-it ++ bytes x ++ drop (answerSize * suc i) room₀) same-said
 
   pub more : (k : ℕ) → k ≡ pick (isReset (j .answer .cause)) 1 0
-  → After l b memory₀ room₀ (i + 1) memory′ room′ (j .monitor) (r + k)
+      → After l b memory₀ room₀ (i + 1) memory′ room′ (j .monitor) (r + k)
   unfolding answers resetting
   more k ek =
       rw add-one

@@ -23,8 +23,8 @@ use Rattle.reader.proofs.Held.{α, B, Own}
 module _ {M : Type 1} (𝓤 : URA M) (H : Heap 𝓤) (A : Atoms 𝓤) (W : Given 𝓤 H A) (κ : Lft) where
   -- a local's cell, with what its value owns, is what a borrow of it holds, and back
   pub lies-in : (h : StepReader) (b : ℕ)
-  → ent 𝓤 (⋆ 𝓤 H A (‵ (fat fullShare (T′.mir erased) b 0 (T′.lowered h)) ∷ ‵ (Own κ h) ∷ []))
-  (sem 𝓤 H A (mem (B κ) .lies h b 0))
+      → ent 𝓤 (⋆ 𝓤 H A (‵ (fat fullShare (T′.mir erased) b 0 (T′.lowered h)) ∷ ‵ (Own κ h) ∷ []))
+      (sem 𝓤 H A (mem (B κ) .lies h b 0))
   unfolding partOf
   lies-in h b =
       qed W (‵ (fat fullShare (T′.mir erased) b 0 (T′.lowered h)) ∷ ‵ (Own κ h) ∷ []) ∵
@@ -33,8 +33,8 @@ module _ {M : Type 1} (𝓤 : URA M) (H : Heap 𝓤) (A : Atoms 𝓤) (W : Given
       fpack ! (List Val) (λ us. fsep (cellAt fullShare (B κ .mir) us b 0) (B κ .own h us)) (T′.lowered h ∷ []) $ done !
 
   pub lies-out : (h : StepReader) (b : ℕ)
-  → ent 𝓤 (sem 𝓤 H A (mem (B κ) .lies h b 0))
-  (⋆ 𝓤 H A (‵ (fat fullShare (T′.mir erased) b 0 (T′.lowered h)) ∷ ‵ (Own κ h) ∷ []))
+      → ent 𝓤 (sem 𝓤 H A (mem (B κ) .lies h b 0))
+      (⋆ 𝓤 H A (‵ (fat fullShare (T′.mir erased) b 0 (T′.lowered h)) ∷ ‵ (Own κ h) ∷ []))
   unfolding partOf
   lies-out h b =
       qed W (‵ (mem (B κ) .lies h b 0) ∷ []) ∵ fpick !
@@ -55,7 +55,7 @@ module _ {M : Type 1} (𝓤 : URA M) (H : Heap 𝓤) (A : Atoms 𝓤) (W : Given
     Back = wand 𝓤 (A .lft (ν ∷ []) q₁) (A .lft (ν ∷ []) fullShare)
 
     pub lend-token : ent 𝓤 (⋆ 𝓤 H A (‵ (flft (ν ∷ []) fullShare) ∷ (‵ (flft κ q) ⊛ ‵ ftrue) ∷ []))
-    (⋆ 𝓤 H A (‵ (flft (ν ∷ κ) q₁) ∷ ‵ (flft κ q₂) ∷ raw Back ∷ []))
+        (⋆ 𝓤 H A (‵ (flft (ν ∷ κ) q₁) ∷ ‵ (flft κ q₂) ∷ raw Back ∷ []))
     lend-token =
         qed W (‵ (flft (ν ∷ []) fullShare) ∷ (‵ (flft κ q) ⊛ ‵ ftrue) ∷ []) ∵ use1 W (‵ (flft (ν ∷ []) q₁) ⊛ raw Back)
         (W .lfts .lft-carve ν q₁) $ split ! $
@@ -66,7 +66,7 @@ module _ {M : Type 1} (𝓤 : URA M) (H : Heap 𝓤) (A : Atoms 𝓤) (W : Given
         !
 
     pub end-token : ent 𝓤 (⋆ 𝓤 H A (‵ (flft (ν ∷ κ) q₁) ∷ ‵ (flft κ q₂) ∷ raw Back ∷ []))
-    (⋆ 𝓤 H A (‵ (flft (ν ∷ []) fullShare) ∷ ‵ (flft κ q) ∷ []))
+        (⋆ 𝓤 H A (‵ (flft (ν ∷ []) fullShare) ∷ ‵ (flft κ q) ∷ []))
     end-token =
         qed W (‵ (flft (ν ∷ κ) q₁) ∷ ‵ (flft κ q₂) ∷ raw Back ∷ []) ∵ use1 W (‵ (flft (ν ∷ []) q₁) ⊛ ‵ (flft κ q₁))
         (W .lfts .lft-unmeet (ν ∷ []) κ q₁) $ split ! $

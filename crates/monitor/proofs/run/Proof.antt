@@ -10,9 +10,15 @@ use Rattle.monitor.proofs.Turns.{After, none, more, one-most, whole}
 use Rattle.monitor.proofs.run.Statement.{statement}
 use Rattle.monitor.proofs.run.Tie as tie
 
+-- after i steps: memory and room have their lengths, no more steps have reset than were judged, and monitor, memory, room and
+-- resets are those of the run's first i steps
 abbrev Inv-loop : tie.InvT-loop
 Inv-loop l trace memory₀ room₀ n m₀ resets₀ i₀ memory room m resets i =
-    (i ≤ n) × (n ≡ count trace) × (length memory ≡ length memory₀) × (length room ≡ length room₀) × (resets ≤ i)
+    (i ≤ n)
+    × (n ≡ count trace)
+    × (length memory ≡ length memory₀)
+    × (length room ≡ length room₀)
+    × (resets ≤ i)
     × After l trace memory₀ room₀ i memory room m resets
 
 abbrev μ-loop : tie.MeasureT-loop
@@ -29,8 +35,11 @@ one-if-requires c κs = tt
 
 add-resets : tie.Need-add-resets Inv-loop μ-loop
 add-resets c =
-    let at-run-step = c .before .before .before .before .before .before .before in
-    omega (arith, c .one-if .ensures, one-most (not (eqb (at-run-step .run-step .result .answer .cause) 0)))
+    omega (
+      arith,
+      c .one-if .ensures,
+      one-most (not (eqb (c .before .before .before .before .before .before .before .run-step .result .answer .cause) 0)),
+    )
 
 add-i : tie.Need-add-i Inv-loop μ-loop
 add-i c = omega arith
@@ -40,12 +49,9 @@ loop-less c = omega arith
 
 loop-again : tie.Need-loop-again Inv-loop μ-loop
 loop-again c =
-    let at-run-step = c .before .before .before .before .before .before .before in
-    let at-loop-test = at-run-step .before .before .before in
-    let at-loop = at-loop-test .before in
-    let h = at-loop .loop in
-    let j = at-run-step .run-step in (
-      omega (arith, h .inv, at-loop-test .loop-test),
+    let h = c .before .before .before .before .before .before .before .before .before .before .before .loop in
+    let j = c .before .before .before .before .before .before .before .run-step in (
+      omega (arith, h .inv, c .before .before .before .before .before .before .before .before .before .before .loop-test),
       refl,
       j .kept .1 .1 .1 .1 .0 ∙ h .inv .2,
       j .kept .1 .1 .1 .1 .1 .0 ∙ h .inv .3,

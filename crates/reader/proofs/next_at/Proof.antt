@@ -131,7 +131,7 @@ module _ {M : Type 1} (𝓤 : URA M) (H : Heap 𝓤) (A : Atoms 𝓤) (W : Given
   to-new = (((κ, tt), (q, tt), tt, (h .trace, tt), (slice-val h ∷ [], tt)), tt)
 
   goes-new : ent 𝓤 (⋆ 𝓤 H A ((‵ (flft κ q) ⊛ ‵ ftrue) ∷ ‵ (Apart κ h) ∷ []))
-  (sep 𝓤 (New 𝓤 H A at-mem run .pre to-new) (sem 𝓤 H A (Apart κ h)))
+      (sep 𝓤 (New 𝓤 H A at-mem run .pre to-new) (sem 𝓤 H A (Apart κ h)))
   goes-new =
       qed W ((‵ (flft κ q) ⊛ ‵ ftrue) ∷ ‵ (Apart κ h) ∷ []) ∵ move ! (1 ∷ []) $ fsplit ! $
       use1 W (‵ OwnS ⊛ ‵ OwnS) (shr-slice-copy 𝓤 H A W (named 0) κ u8 .twice (h .trace) (slice-val h ∷ [])) $ split ! $
@@ -142,22 +142,31 @@ module _ {M : Type 1} (𝓤 : URA M) (H : Heap 𝓤) (A : Atoms 𝓤) (W : Given
       []) ∵ join ! $ frame ! $ done !) $ frame ! $ fjoin ! $ done !
 
   new-said : (r : StepReader)
-  → ent 𝓤 (ensured 𝓤 H A new.ended (new.clauses 𝓤 H A at-mem run) (κ, tt) (h .trace, tt) tt r)
-  (fact 𝓤 (Begins (h .trace) r))
+      → ent 𝓤 (ensured 𝓤 H A new.ended (new.clauses 𝓤 H A at-mem run) (κ, tt) (h .trace, tt) tt r)
+      (fact 𝓤 (Begins (h .trace) r))
   new-said r = exE 𝓤 _ (λ ws. snd∗ 𝓤 (sem 𝓤 H A (lasts new.ended (κ, tt) (h .trace, tt) ws))
-  (fact 𝓤 (Begins (h .trace) r)))
+      (fact 𝓤 (Begins (h .trace) r)))
 
   -- the call of `next`, at a reference to the block b, lent for the meet of ν and κ under the name γ
   abbrev lent-ref : ℕ → GName → RefT StepReader
   lent-ref b γ = record { ptr = (b, 0); name = γ; now = h }
 
   abbrev to-next : ℕ → ℕ → GName → Next 𝓤 H A at-mem run .Ghost
-  to-next ν b γ = (((ν ∷ κ, (κ, tt)), (PosShare·left q, (PosShare·right q, tt)), (meet-⊑-right (ν ∷ []) κ, tt),
-  (lent-ref b γ, tt), (vptr b 0 ∷ [], tt)), tt)
+  to-next ν b γ = (
+    (
+      (ν ∷ κ, (κ, tt)),
+      (PosShare·left q, (PosShare·right q, tt)),
+      (meet-⊑-right (ν ∷ []) κ, tt),
+      (lent-ref b γ, tt),
+      (vptr b 0 ∷ [], tt),
+    ),
+    tt,
+  )
 
   goes-next : (ν b : ℕ) (γ : GName)
-  → ent 𝓤 (⋆ 𝓤 H A (‵ (MutRef (named 0) (ν ∷ κ) (B κ) .own (lent-ref b γ) (vptr b 0 ∷ [])) ∷ ‵
-  (flft (ν ∷ κ) (PosShare·left q)) ∷ ‵ (flft κ (PosShare·right q)) ∷ [])) (Next 𝓤 H A at-mem run .pre (to-next ν b γ))
+      → ent 𝓤 (⋆ 𝓤 H A (‵ (MutRef (named 0) (ν ∷ κ) (B κ) .own (lent-ref b γ) (vptr b 0 ∷ [])) ∷ ‵
+      (flft (ν ∷ κ) (PosShare·left q)) ∷ ‵ (flft κ (PosShare·right q)) ∷ []))
+      (Next 𝓤 H A at-mem run .pre (to-next ν b γ))
   goes-next ν b γ =
       qed W (‵ (MutRef (named 0) (ν ∷ κ) (B κ) .own (lent-ref b γ) (vptr b 0 ∷ [])) ∷ ‵ (flft (ν ∷ κ) (PosShare·left q))
       ∷ ‵ (flft κ (PosShare·right q)) ∷ []) ∵
@@ -165,7 +174,7 @@ module _ {M : Type 1} (𝓤 : URA M) (H : Heap 𝓤) (A : Atoms 𝓤) (W : Given
       ! $ join ! $ frame ! $ done !
 
   exits : (r : Advance) → Advances (now (h .trace)) (h .place) r → Is K.the-row r (advance-val r ∷ [])
-  → ent 𝓤 (⋆ 𝓤 H A (‵ (flft κ q) ∷ ‵ (Apart κ h) ∷ [])) (Post (advance-val r))
+      → ent 𝓤 (⋆ 𝓤 H A (‵ (flft κ q) ∷ ‵ (Apart κ h) ∷ [])) (Post (advance-val r))
   exits r e is =
       qed W (‵ (flft κ q) ∷ ‵ (Apart κ h) ∷ []) ∵
       suffices ! _ (ends-at 𝓤 H A f.ended stayed (f.clauses 𝓤 H A at-mem run) W (((κ, tt), (q, tt), tt, x, at), tt)
@@ -174,8 +183,8 @@ module _ {M : Type 1} (𝓤 : URA M) (H : Heap 𝓤) (A : Atoms 𝓤) (W : Given
       owned ! K.the-row (Is K.the-row) (LL.makes K.the-type K′.the-plain 𝓤 H A) r _ is $ done !
 
   module _ (C : Calls 𝓤 H) (Λ : Loops 𝓤 H) (fm : FmC 𝓤 H (W .laws) C)
-  (known-new : Triple 𝓤 (C #reader·StepReader·new) (New 𝓤 H A at-mem run))
-  (known : Triple 𝓤 (C #reader·StepReader·next) (Next 𝓤 H A at-mem run)) where
+      (known-new : Triple 𝓤 (C #reader·StepReader·new) (New 𝓤 H A at-mem run))
+      (known : Triple 𝓤 (C #reader·StepReader·next) (Next 𝓤 H A at-mem run)) where
     walk : Is (ShrSlice (named 0) κ u8) (h .trace) (slice-val h ∷ []) → h .place < 2 ^ 64
         → ent 𝓤 (onEntry 𝓤 H A f.signature (κ, tt) (q, tt) x at)
         (WpFn 𝓤 H C Λ code.function (slice-val h ∷ vint w64 (h .place) ∷ []) Post)
@@ -271,10 +280,11 @@ module _ {M : Type 1} (𝓤 : URA M) (H : Heap 𝓤) (A : Atoms 𝓤) (W : Given
 module _ {M : Type 1} (𝓤 : URA M) (H : Heap 𝓤) (A : Atoms 𝓤) (W : Given 𝓤 H A) (mem : Memory → SProp 𝓤)
     (run : Routine → Fun 𝓤) where
   f-walks : (C : Calls 𝓤 H) (Λ : Loops 𝓤 H) → FmC 𝓤 H (W .laws) C
-  → Triple 𝓤 (C #reader·StepReader·new) (New 𝓤 H A mem run) → Triple 𝓤 (C #reader·StepReader·next) (Next 𝓤 H A mem run)
-  → Walks 𝓤 H A f.ended stayed (WpFn 𝓤 H C Λ code.function) (f.clauses 𝓤 H A mem run)
+      → Triple 𝓤 (C #reader·StepReader·new) (New 𝓤 H A mem run)
+      → Triple 𝓤 (C #reader·StepReader·next) (Next 𝓤 H A mem run)
+      → Walks 𝓤 H A f.ended stayed (WpFn 𝓤 H C Λ code.function) (f.clauses 𝓤 H A mem run)
   f-walks C Λ fm known-new known = walked 𝓤 H A f.ended stayed (f.clauses 𝓤 H A mem run) (WpFn 𝓤 H C Λ code.function)
-  (λ κs. (slice-vals, (uint-vals w64, tt))) (λ κs. (shr-slice-tells (named 0) (κs .0) u8, (uint-tells w64, tt)))
+      (λ κs. (slice-vals, (uint-vals w64, tt))) (λ κs. (shr-slice-tells (named 0) (κs .0) u8, (uint-tells w64, tt)))
       (λ κs qs bounds a g are. via 𝓤 _ (fst∗ 𝓤 _ (emp 𝓤))
       (walk 𝓤 H A W mem run (κs .0) (qs .0) (record { trace = a .0; place = a .1 .0 }) C Λ fm known-new known (are .0)
       (are .1 .0 .1)))
@@ -285,9 +295,10 @@ f-meets : {M : Type 1} (𝓤 : URA M) (H : Heap 𝓤) (A : Atoms 𝓤) (W : Give
     → Triple 𝓤 (𝓣 .C #reader·StepReader·next) (Next 𝓤 H A mem run)
     → Meets 𝓤 H A f.signature (WpFn 𝓤 H (𝓣 .C) (𝓣 .Λ) code.function) (f.spec 𝓤 H A mem run)
 f-meets 𝓤 H A W mem run 𝓣 known-new known =
-    walk-meets 𝓤 H A f.ended stayed W
-    (goes-none-slice 𝓤 H A W 1 (0 ∷ []) tt (plain (λ _. u8)) yes,
-    (goes-none 𝓤 H A W 1 (λ _. usize) yes (λ κs x f. refl), tt)) (f.clauses 𝓤 H A mem run)
+    walk-meets 𝓤 H A f.ended stayed W (
+      goes-none-slice 𝓤 H A W 1 (0 ∷ []) tt (plain (λ _. u8)) yes,
+      (goes-none 𝓤 H A W 1 (λ _. usize) yes (λ κs x f. refl), tt),
+    ) (f.clauses 𝓤 H A mem run)
     (WpFn 𝓤 H (𝓣 .C) (𝓣 .Λ) code.function) (WpFn-mono 𝓤 H (W .laws) 𝓣 code.function)
     (f-walks 𝓤 H A W mem run (𝓣 .C) (𝓣 .Λ) (fmOf 𝓤 H (W .laws) 𝓣) known-new known)
 

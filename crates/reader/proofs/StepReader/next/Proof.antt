@@ -114,18 +114,18 @@ module _ {M : Type 1} (𝓤 : URA M) (H : Heap 𝓤) (A : Atoms 𝓤) (W : Given
   -- what the slice owns is kept, and the place's facts are made anew
   again : (p : ℕ) → p < 2 ^ 64 → ent 𝓤 (sem 𝓤 H A (Own κ′ h)) (sem 𝓤 H A (Own κ′ (at-place p)))
   again p fits = qed W (‵ (Own κ′ h) ∷ []) ∵ owned ! usize (Is usize) (uint-makes 𝓤 H A W w64) p _ (refl, fits) $ move !
-  (1 ∷ 0 ∷ []) $ by ! (own-put 𝓤 H A W (T.the-type (α κ′)) (T′.the-laws (α κ′)) 1 (h .trace, (h .place, tt)) p
-  (T′.lowered h))
+      (1 ∷ 0 ∷ []) $ by ! (own-put 𝓤 H A W (T.the-type (α κ′)) (T′.the-laws (α κ′)) 1 (h .trace, (h .place, tt)) p
+      (T′.lowered h))
 
   -- of the callee's `ensured`, the clause alone
   abbrev Said : Advance → Type 0
   Said r = Advances (now (h .trace)) (h .place) r
 
   said : (r : Advance) → ent 𝓤
-  (ensured 𝓤 H A read-on.ended (read-on.clauses 𝓤 H A at-mem run) (κ′, tt) (h .trace, (h .place, tt)) tt r)
-  (fact 𝓤 (Said r))
+      (ensured 𝓤 H A read-on.ended (read-on.clauses 𝓤 H A at-mem run) (κ′, tt) (h .trace, (h .place, tt)) tt r)
+      (fact 𝓤 (Said r))
   said r = exE 𝓤 _ (λ ws. snd∗ 𝓤 (sem 𝓤 H A (lasts read-on.ended (κ′, tt) (h .trace, (h .place, tt)) ws))
-  (fact 𝓤 (Said r)))
+      (fact 𝓤 (Said r)))
 
   exits : (r : Advance) → Said r → Is S.the-row (r .read) (read-val (r .read) ∷ [])
       → ent 𝓤 (⋆ 𝓤 H A (‵ (fobs γ (B κ′ .coded .code (at-place (r .place)))) ∷ ‵ (fbor κ (Body (mem (B κ′)) b o γ)) ∷ ‵
@@ -141,9 +141,9 @@ module _ {M : Type 1} (𝓤 : URA M) (H : Heap 𝓤) (A : Atoms 𝓤) (W : Given
       owned ! S.the-row (Is S.the-row) (EL.makes S.the-type S′.the-plain 𝓤 H A) (r .read) _ is $ done !
 
   module _ (C : Calls 𝓤 H) (Λ : Loops 𝓤 H) (fm : FmC 𝓤 H (W .laws) C)
-  (known : Triple 𝓤 (C #reader·read-on) (ReadOn 𝓤 H A at-mem run)) where
+      (known : Triple 𝓤 (C #reader·read-on) (ReadOn 𝓤 H A at-mem run)) where
     walk : ent 𝓤 (onEntry 𝓤 H A f.signature (κ, (κ′, tt)) (q, (q′, tt)) x at)
-    (WpFn 𝓤 H C Λ code.function (vptr b o ∷ []) Post)
+        (WpFn 𝓤 H C Λ code.function (vptr b o ∷ []) Post)
     walk =
         qed W ((‵ (flft κ q) ⊛ ‵ (flft κ′ q′) ⊛ ‵ ftrue) ∷ ‵ (owns (MutRef (named 0) κ (B κ′) ∷ []) x at) ∷ []) ∵ enter
         ! C Λ code.function (vptr b o ∷ []) _ $
@@ -204,9 +204,9 @@ module _ {M : Type 1} (𝓤 : URA M) (H : Heap 𝓤) (A : Atoms 𝓤) (W : Given
 module _ {M : Type 1} (𝓤 : URA M) (H : Heap 𝓤) (A : Atoms 𝓤) (W : Given 𝓤 H A) (mem : Memory → SProp 𝓤)
     (run : Routine → Fun 𝓤) where
   f-walks : (C : Calls 𝓤 H) (Λ : Loops 𝓤 H) → FmC 𝓤 H (W .laws) C → Triple 𝓤 (C #reader·read-on) (ReadOn 𝓤 H A mem run)
-  → Walks 𝓤 H A f.ended stayed (WpFn 𝓤 H C Λ code.function) (f.clauses 𝓤 H A mem run)
+      → Walks 𝓤 H A f.ended stayed (WpFn 𝓤 H C Λ code.function) (f.clauses 𝓤 H A mem run)
   f-walks C Λ fm known = walked 𝓤 H A f.ended stayed (f.clauses 𝓤 H A mem run) (WpFn 𝓤 H C Λ code.function)
-  (λ κs. (ptr-vals, tt)) (λ κs. (mut-tells (named 0) (κs .0) (B (κs .1 .0)), tt))
+      (λ κs. (ptr-vals, tt)) (λ κs. (mut-tells (named 0) (κs .0) (B (κs .1 .0)), tt))
       (λ κs qs bounds a _ are. via 𝓤 _ (fst∗ 𝓤 _ (emp 𝓤))
       (walk 𝓤 H A W mem run (κs .0) (κs .1 .0) (qs .0) (qs .1 .0) bounds (a .0 .ptr .0) (a .0 .ptr .1) (a .0 .name)
       (a .0 .now) C Λ fm known))

@@ -7,6 +7,7 @@ from typing import Iterator, Optional
 
 import board
 import calls
+import marked
 import page
 import runfile
 from call import ATTEST, CHECK, FILE, FINISH, HASH, LAYOUT, LENT_FINISH, LENT_TAKE_IN, MAC, MOST, NEXT, PLACE, STATE, STEP
@@ -14,6 +15,7 @@ from call import TAKE_IN, TOKEN, TRACE
 from board import DMA, DMA_WRITES, Layout, Step, Totals
 from calls import Made
 from made_calls import stdin
+from made_layouts import HEAD, about_ar
 from made_memories import regions_of
 from made_reading import ZEROS
 from made_running import LIMIT
@@ -33,7 +35,7 @@ REFUSALS = {
 CAUSES = (*range(11), 15)
 
 # The bytes that the files have at most together.
-MOST_STORED = 22_000_000
+MOST_STORED = 22_200_000
 
 
 def word(done: Made) -> str:
@@ -47,6 +49,23 @@ def length_met(name: str, given: bytes, right: int) -> Iterator[str]:
         yield f"{name} of more than {LIMIT} bytes"
     if abs(len(given) - right) == 1:
         yield f"{name} of {len(given)} bytes"
+
+
+# ---- Layouts
+
+
+def layout_met(done: Made, kind: str) -> Iterator[str]:
+    """Where AR is in a good layout."""
+    layout, = done.arguments
+    if kind.startswith("refused"):
+        return
+    ar, cr = regions_of(layout).ar, regions_of(layout).cr
+    if about_ar(layout):
+        yield f"{kind} about AR"
+    elif cr[0] in ar:
+        yield f"{kind} with CR {'right behind' if ar[HEAD] == cr[0] else 'further behind'} AR's first bytes"
+    elif len(ar) == HEAD + 1:
+        yield f"{kind} with the least AR"
 
 
 # ---- Steps, traces and files
@@ -224,7 +243,9 @@ def met(done: Made, before: Optional[Made]) -> Iterator[str]:
         yield f"{kind} on what the call before left"
     if sum(map(len, done.arguments)) == MOST:
         yield f"as many bytes as a call can have by call {done.number}"
-    if done.number in (STEP, TRACE, FILE):
+    if done.number == LAYOUT:
+        yield from layout_met(done, kind)
+    elif done.number in (STEP, TRACE, FILE):
         yield from judging_met(done, kind)
     elif done.number == ATTEST:
         yield from attest_met(done, kind)
@@ -273,6 +294,8 @@ def least_of_judging() -> Iterator[tuple[str, int]]:
     judged = (f"held by call {STEP}", f"steps by call {TRACE}", f"steps by call {FILE}")
     yield from ((f"{kind} with room behind the answers", 2) for kind in judged)
     yield from ((kind, 5) for kind in (f"good by call {LAYOUT}", *judged))
+    behind = [f"with CR {where} behind AR's first bytes" for where in ("right", "further")]
+    yield from ((f"good by call {LAYOUT} {what}", 5) for what in ("about AR", "with the least AR", *behind))
 
 
 def least_of_answering() -> Iterator[tuple[str, int]]:
@@ -333,6 +356,7 @@ def blindness(made: list[Optional[Made]]) -> Iterator[str]:
         if done is not None:
             tally.update(met(done, before))
     yield from (f"{what}: {tally[what]}" for what, times in least().items() if tally[what] < times)
+    yield from marked.unmarked(marked.of_call(done.number, done.arguments) for done in made if done is not None)
     known = {f"refused {refusal} by call {number}" for number, some in REFUSALS.items() for refusal in some}
     told = {word(done) for done in made if done is not None}
     yield from (f"{what} cannot be" for what in sorted(told - known) if what.startswith("refused"))

@@ -1,6 +1,7 @@
 """Calls and run files drawn at random, most of them around the edges of regions, lengths, totals and places.
 
-A call is wrong in none, one or some of the ways that it can be refused for, each by itself.
+A call is wrong in none, one or some of the ways that it can be refused for, each by itself. Layouts that are about AR's size,
+or about AR sharing with CR in its first 32 bytes, are those of made_layouts and no others.
 """
 from __future__ import annotations
 
@@ -12,6 +13,7 @@ import made_layouts
 from board import LAYOUT_BYTES, MEMORY_BYTES
 from call import ATTEST, CHECK, FILE, HASH, LAYOUT, MAC, MOST, NEXT, STEP, TOKEN, TRACE, Call, call, place_bytes
 from made_files import filed, segment
+from made_layouts import HEAD, about_ar
 from made_memories import BASES, edged, laid, of_length, places_of, regions_of
 from made_reading import ZEROS, clean_trace, far_places, soiled
 from made_running import BY_VALUE, COUNTS, LENT, LIMIT, TOTALS, Running, any_state, full, run
@@ -22,6 +24,7 @@ from made_traces import Draw, Places, any_start, changed_step, inside_step, outs
 # ---- Layouts
 
 FIXED = {1: 64, 4: 32}
+DrawnLayout = Callable[[Draw], bytes]
 
 
 def drawn_size(draw: Draw, place: int) -> int:
@@ -29,13 +32,18 @@ def drawn_size(draw: Draw, place: int) -> int:
         return FIXED[place]
     if place == 3:
         return draw.of((96, 96, 97, 96 + draw.below(500)))
-    return draw.of((1, 2, 3, 1 + draw.below(400), 1 + draw.below(30_000 if place == 5 else 2_000)))
+    if place == 5:
+        return HEAD + draw.of((1, 2, 3, 1 + draw.below(400), 1 + draw.below(30_000)))
+    return draw.of((1, 2, 3, 1 + draw.below(400), 1 + draw.below(2_000)))
 
 
 def fresh_layout(draw: Draw) -> bytes:
-    """Regions in any order, side by side or not, often from address 0 or to the highest. At times AR is CR or a part of it."""
+    """Regions in any order, side by side or not, often from address 0 or to the highest. At times AR goes on into CR."""
     sizes = [drawn_size(draw, place) for place in range(6)]
     shared = draw.chance(25)
+    # What AR has before CR.
+    lead = HEAD + draw.of((0, 0, 1, draw.below(400))) if shared else 0
+    sizes[0] += lead
     order = sorted(range(5 if shared else 6), key=lambda _: draw.below(2**31))
     gaps = [draw.of((0, 0, 0, 1, draw.below(4_000))) for _ in order]
     spare = MEMORY_BYTES - sum(sizes[place] for place in order) - sum(gaps[1:])
@@ -45,8 +53,9 @@ def fresh_layout(draw: Draw) -> bytes:
         ends[place] = (start + gap, start + gap + sizes[place] - 1)
         start = ends[place][1] + 1
     if shared:
-        low, high = ends[0]
-        ends[5] = draw.of(((low, high), (low, low), (high, high), (low, (low + high) // 2)))
+        start, high = ends[0]
+        low = start + lead
+        ends[0], ends[5] = (low, high), (start, draw.of((high, high, low, (low + high) // 2)))
     return struct.pack("<12H", *(end for pair in ends for end in pair))
 
 
@@ -83,7 +92,13 @@ def changed_layout(draw: Draw, layout: bytes) -> bytes:
 def wrong_layout(draw: Draw) -> bytes:
     """Mostly refused."""
     layout = changed_layout(draw, good_layout(draw))
-    return changed_layout(draw, layout) if draw.chance(30) else layout
+    layout = changed_layout(draw, layout) if draw.chance(30) else layout
+    return wrong_layout(draw) if about_ar(layout) else layout
+
+
+def layout_about_ar(draw: Draw) -> bytes:
+    """About AR: a good one."""
+    return draw.of(made_layouts.GOOD_ABOUT_AR)
 
 
 def drawn_layout(draw: Draw) -> Call:
@@ -146,8 +161,8 @@ def grounds(draw: Draw, *names: str, percent: int = 8) -> set[str]:
     return {name for name in names if draw.chance(percent)}
 
 
-def drawn_step_call(draw: Draw) -> Call:
-    wrong, layout = grounds(draw, "memory", "layout", "length", "room", "zeros"), good_layout(draw)
+def drawn_step_call(draw: Draw, drawn: DrawnLayout = good_layout) -> Call:
+    wrong, layout = grounds(draw, "memory", "layout", "length", "room", "zeros"), drawn(draw)
     monitor, step = any_start(draw, places_of(layout))
     memory = wrong_memory(draw) if "memory" in wrong else edged(draw, layout)
     step = spoilt(draw, step) if "zeros" in wrong else step
@@ -158,8 +173,8 @@ def drawn_step_call(draw: Draw) -> Call:
     return call(STEP, memory, layout, step, remembered, room_for(draw, 1, "room" in wrong))
 
 
-def drawn_trace_call(draw: Draw) -> Call:
-    wrong, layout = grounds(draw, "memory", "layout", "length", "room", "zeros"), good_layout(draw)
+def drawn_trace_call(draw: Draw, drawn: DrawnLayout = good_layout) -> Call:
+    wrong, layout = grounds(draw, "memory", "layout", "length", "room", "zeros"), drawn(draw)
     trace = drawn_trace(draw, layout)
     memory = wrong_memory(draw) if "memory" in wrong else edged(draw, layout)
     trace = spoilt(draw, trace) if "zeros" in wrong else trace
@@ -213,8 +228,8 @@ def drawn_challenges(draw: Draw, wrong: bool) -> tuple[bytes, bytes]:
     return higher, draw.of((lower, higher, moved(higher, -1)))
 
 
-def drawn_attest_call(draw: Draw) -> Call:
-    layout = good_layout(draw)
+def drawn_attest_call(draw: Draw, drawn: DrawnLayout = good_layout) -> Call:
+    layout = drawn(draw)
     wrong = grounds(draw, "memory", "layout") | grounds(draw, "challenge", "token", percent=20)
     regions, key = regions_of(layout), draw.bytes(64)
     counter, challenge = drawn_challenges(draw, "challenge" in wrong)
@@ -321,6 +336,11 @@ MAKERS: tuple[tuple[int, Callable[[Draw], Call]], ...] = (
     (5, lambda draw: drawn_finish(draw, LENT)),
     (10, drawn_next_call),
     (12, drawn_file_call),
+    # About AR.
+    (1, lambda draw: call(LAYOUT, draw.of(made_layouts.ABOUT_AR))),
+    (1, lambda draw: drawn_step_call(draw, layout_about_ar)),
+    (1, lambda draw: drawn_trace_call(draw, layout_about_ar)),
+    (1, lambda draw: drawn_attest_call(draw, layout_about_ar)),
 )
 DECK = tuple(maker for times, maker in MAKERS for _ in range(times))
 

@@ -9,6 +9,7 @@ from collections import Counter
 from typing import Iterator, Optional
 
 import board
+import marked
 import page
 import runfile
 from made_files import Case
@@ -99,6 +100,7 @@ def blindness(made: list[Case], printed: list[bytes]) -> Iterator[str]:
         if case.says not in (None, says):
             yield f"file {number} says {says} and not {case.says}"
     yield from (f"{what}: {tally[what]}" for what, times in least().items() if tally[what] < times)
+    yield from marked.unmarked(marked.of_file(case.file) for case in made)
     yield from (f"{what} by judge" for what in ("refusal 1", "refusal 2", "refusal 8") if tally[what])
     lengths = {case.file: len(text) for case, text in zip(made, printed)}
     if lengths[longest()] != LONGEST_TEXT or max(lengths.values()) != LONGEST_TEXT:

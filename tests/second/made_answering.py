@@ -62,6 +62,12 @@ def accepted_requests(draw: Draw) -> Iterator[Call]:
         yield requested(BASES[1], layout, LOW * 2, counter, challenge)
 
 
+def requests_about_ar(draw: Draw) -> Iterator[Call]:
+    """About AR, of one byte and as CR."""
+    for layout in made_layouts.GOOD_ABOUT_AR[:2]:
+        yield requested(edged(draw, layout), layout, draw.bytes(64), MIDDLE, moved(MIDDLE, 1))
+
+
 def attest_calls(draw: Draw) -> Iterator[Call]:
     for length in (*SHORT, *LONG, 131_073):
         yield call(ATTEST, of_length(length), page.LAYOUT)
@@ -71,6 +77,7 @@ def attest_calls(draw: Draw) -> Iterator[Call]:
         yield call(ATTEST, BASES[number % 4] if number % 3 else request, layout)
     yield from refused_requests(draw)
     yield from accepted_requests(draw)
+    yield from requests_about_ar(draw)
 
 
 # ---- The station

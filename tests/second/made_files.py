@@ -14,7 +14,7 @@ import page
 from board import DMA, READS
 from made_layouts import PAGE, changed, sized
 from made_traces import SPOILERS, spoilt
-from page import ALL_CR, AR_FROM_KR, CLEAN, REVERSED_AR_SHORT_KR, SHORT_MR_SHORT_CTR, UNCLEAN, step_bytes
+from page import AR_FROM_KR, CLEAN, CR_TO_AR, REVERSED_AR_SHORT_KR, SHORT_MR_SHORT_CTR, UNCLEAN, step_bytes
 
 JUDGED = "step cause cpu dma"
 
@@ -138,7 +138,8 @@ def layout_cases() -> Iterator[Case]:
     """Layouts of every shape. They have 24 bytes, or entry 0 fails."""
     for text, refusal in page.LAYOUTS:
         yield Case(filed(page.MEMORY_BODY, page.TRACE, bytes.fromhex(text)), JUDGED if refusal is None else str(refusal))
-    for layout in made_layouts.layouts():
+    about_ar = (*made_layouts.GOOD_ABOUT_AR, *made_layouts.REFUSED_ABOUT_AR)
+    for layout in (*made_layouts.layouts(), *about_ar):
         known = None if len(layout) == board.LAYOUT_BYTES else "refused 13 0"
         yield Case(filed(segment(0x10, b"\x5a"), reads((0x10, 0x11)), layout), known)
     for place, (name, (lowest, highest)) in enumerate(zip(made_layouts.NAMES, PAGE)):
@@ -273,7 +274,7 @@ LAYOUTS = (
     (None, page.LAYOUT),
     ("refused 3 5", REVERSED_AR_SHORT_KR),
     ("refused 4 3", SHORT_MR_SHORT_CTR),
-    ("refused 5 0", ALL_CR),
+    ("refused 5 0", CR_TO_AR),
     ("refused 6 0", AR_FROM_KR),
 )
 MEMORIES = ((None, page.MEMORY_BODY), ("refused 14 1", page.MEMORY_BODY[:-1]), ("refused 14 0", b"\0"))

@@ -32,7 +32,7 @@ WRONG_LAYOUTS = (
     *(changed(PAGE, kr=sized(0x6A00, size)) for size in (63, 65)),
     changed(PAGE, mr=sized(0x230, 95)),
     *(changed(PAGE, ctr=sized(0x300, size)) for size in (31, 33)),
-    *(changed(PAGE, cr=(0, highest)) for highest in (0, 1, 0xFF, 0x22F, 0xFFFF)),
+    *(changed(PAGE, cr=(0, highest)) for highest in (0, 1, 0xFF, 0x22F, 0xDFFF)),
     changed(PAGE, xs=(0x31F, 0x7FF)),
     changed(PAGE, mr=sized(0x2A1, 96)),
     changed(PAGE, kr=sized(0x9FC1, 64)),
@@ -46,7 +46,8 @@ LONG = (65_535, 65_537)
 
 
 def layout_calls(draw: Draw) -> Iterator[Call]:
-    for layout in (*made_layouts.layouts(), *made_layouts.REFUSED, *made_layouts.ALL_GOOD, *WRONG_LAYOUTS):
+    others = (*made_layouts.REFUSED, *made_layouts.ALL_GOOD, *WRONG_LAYOUTS, *made_layouts.ABOUT_AR)
+    for layout in (*made_layouts.layouts(), *others):
         yield call(LAYOUT, layout)
     for _ in range(200):
         yield drawn_layout(draw)
@@ -137,6 +138,12 @@ def judged_traces(draw: Draw) -> Iterator[Call]:
             yield trace_call(memory, layout, visits(draw, places, 60, False), number)
 
 
+def trace_about_ar(draw: Draw) -> Call:
+    """About AR, which is CR."""
+    layout = made_layouts.GOOD_ABOUT_AR[1]
+    return trace_call(edged(draw, layout), layout, walk(draw, places_of(layout), 60))
+
+
 def refused_traces() -> Iterator[Call]:
     good, worst, hundred = storing(2), b"\xff" * 11, storing(100)
     for length in (*SHORT, *LONG, 131_073):
@@ -157,6 +164,7 @@ def refused_traces() -> Iterator[Call]:
 
 def trace_calls(draw: Draw) -> Iterator[Call]:
     yield from judged_traces(draw)
+    yield trace_about_ar(draw)
     yield from refused_traces()
     yield trace_call(PAGE_MEMORY, page.LAYOUT, storing(40), MOST - len(PAGE_MEMORY) - 24 - 16 * 40)
 
@@ -174,7 +182,7 @@ def early_files() -> Iterator[Call]:
             yield call(FILE, case.file, b"", b"\xa5")
     yield call(FILE, filed(trace=CLEAN * 4_092) + bytes(2), of_length(256), of_length(16))
     for number, length in enumerate((*SHORT, *LONG, 131_073)):
-        file = page.FILE if number % 2 == 0 else filed(b"\0", UNCLEAN, page.ALL_CR)
+        file = page.FILE if number % 2 == 0 else filed(b"\0", UNCLEAN, page.CR_TO_AR)
         yield call(FILE, file, of_length(length), of_length(28))
 
 

@@ -13,6 +13,7 @@ import made_layouts
 import page
 from board import DMA, READS, WRITES
 from made_files import JUDGED, Case, filed, reads, renumbered, segment
+from made_layouts import about_ar
 from made_memories import places_of
 from made_traces import Draw, spoilt, sweep, walk
 from page import AR_FROM_KR, CLEAN, UNCLEAN, step_bytes
@@ -122,7 +123,7 @@ def changed_bytes(draw: Draw, body: bytes) -> bytes:
 
 
 def changed_parts(draw: Draw, parts: Parts) -> bytes:
-    """A file with changes in one body, in two, or in the whole file, where one in three is in the contents."""
+    """A file with changes in one body, in two, or in the whole file, one in three of these in the contents; none about AR."""
     layout, memory, trace = parts
     for _ in range(1 + draw.below(2)):
         body = draw.below(5)
@@ -136,7 +137,7 @@ def changed_parts(draw: Draw, parts: Parts) -> bytes:
     file = filed(memory, trace, layout)
     if draw.chance(25):
         file = changed_bytes(draw, file) if draw.below(3) else changed_bytes(draw, file[:24]) + file[24:]
-    return file
+    return changed_parts(draw, parts) if about_ar(file[24:48]) else file
 
 
 def drawn_cases(draw: Draw) -> Iterator[Case]:

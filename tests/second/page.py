@@ -152,8 +152,8 @@ def effect_faults() -> Iterator[str]:
 
 # Layouts and what their check says.
 LAYOUTS = (
-    ("00a0ffa0 006a3f6a 0004ff07 30028f02 00031f03 00a0ffa0", None),
-    ("01000100 c0ffffff 02000200 03006200 63008200 00000000", None),
+    ("00a0ffa0 006a3f6a 0004ff07 30028f02 00031f03 e09fffa0", None),
+    ("21002100 c0ffffff 22002200 23008200 8300a200 00002000", None),
     ("00a0ffa0 00003f00 0004ff07 30029002 00031f03 00e0ffff", None),
     ("00a0ffa0 006a406a 0004ff07 30028f02 00031f03 00e0ffff", Refusal(4, 1)),
     ("00a0ffa0 006a3f6a 0004ff07 30028e02 00031f03 00e0ffff", Refusal(4, 3)),
@@ -161,7 +161,11 @@ LAYOUTS = (
     ("00000000 006a3f6a 0004ff07 30028f02 00031f03 00e0ffff", Refusal(5)),
     ("00a0ffa0 006a3f6a 1f03ff07 30028f02 00031f03 00e0ffff", Refusal(6)),
     ("ffa000a0 006a3f6a ff070004 30028f02 00031f03 00e0ffff", Refusal(3, 0)),
+    # About AR: it is CR, and it has one address.
+    ("00a0ffa0 006a3f6a 0004ff07 30028f02 00031f03 00a0ffa0", None),
+    ("01000100 c0ffffff 02000200 03006200 63008200 00000000", None),
 )
+LAYOUTS_ABOUT_AR = tuple(bytes.fromhex(layout) for layout, _ in LAYOUTS[-2:])
 
 
 def layout_faults() -> Iterator[str]:
@@ -173,7 +177,7 @@ def layout_faults() -> Iterator[str]:
 
 REVERSED_AR_SHORT_KR = bytes.fromhex("00a0ffa0 006a3e6a 0004ff07 30028f02 00031f03 ffff00e0")
 SHORT_MR_SHORT_CTR = bytes.fromhex("00a0ffa0 006a3f6a 0004ff07 30028e02 00031e03 00e0ffff")
-ALL_CR = bytes.fromhex("0000ffff 006a3f6a 0004ff07 30028f02 00031f03 00e0ffff")
+CR_TO_AR = bytes.fromhex("0000ffdf 006a3f6a 0004ff07 30028f02 00031f03 00e0ffff")
 AR_FROM_KR = bytes.fromhex("00a0ffa0 006a3f6a 0004ff07 30028f02 00031f03 3f6aff6a")
 CLEAN, UNCLEAN = step_bytes(0), step_bytes(0, flags=0x20)
 
@@ -183,7 +187,7 @@ REFUSALS = (
     ("refused 2 0", 65_536, LAYOUT[:23], CLEAN, 4, True),
     ("refused 3 5", 65_536, REVERSED_AR_SHORT_KR, CLEAN, 4, True),
     ("refused 4 3", 65_536, SHORT_MR_SHORT_CTR, CLEAN, 4, True),
-    ("refused 5 0", 65_536, ALL_CR, CLEAN[:11], 0, True),
+    ("refused 5 0", 65_536, CR_TO_AR, CLEAN[:11], 0, True),
     ("refused 6 0", 65_536, AR_FROM_KR, CLEAN[:11], 0, True),
     ("refused 7 0", 65_536, LAYOUT, UNCLEAN[:11], 0, True),
     ("refused 7 0", 65_536, LAYOUT, CLEAN * 4_097, 4 * 4_097, True),

@@ -5,7 +5,7 @@ from typing import Iterator
 
 import page
 from board import DMA, READS, WRITES, Totals
-from page import ALL_CR, AR_FROM_KR, CLEAN, LAYOUT, REVERSED_AR_SHORT_KR, SHORT_MR_SHORT_CTR, UNCLEAN, step_bytes
+from page import AR_FROM_KR, CLEAN, CR_TO_AR, LAYOUT, REVERSED_AR_SHORT_KR, SHORT_MR_SHORT_CTR, UNCLEAN, step_bytes
 from runfile import judge, judge_file
 
 TWO_READS = step_bytes(0, 0x0000, 0xFFFF, READS | DMA) + step_bytes(0xC000, 0x0001, 0x0002, READS | DMA)
@@ -69,12 +69,12 @@ REFUSED = {
         filed("18000000 18000000 30000000 00000000 30000000 01000000"),
         filed("18000000 18000000 30000000 00000000 30000000 d0ffffff"),
         filed("18000000 18000000 30000000 00000000 30000000 0b000000", "", CLEAN),
-        filed("18000000 18000000 30000000 00000000 30000000 0b000000", "ab000000", UNCLEAN, ALL_CR),
+        filed("18000000 18000000 30000000 00000000 30000000 0b000000", "ab000000", UNCLEAN, CR_TO_AR),
     ],
     # The layout, with a memory body and a trace that fail too.
     "refused 3 5": [filed(FIVE_11, "ffff0200 ff", UNCLEAN[:11], REVERSED_AR_SHORT_KR)],
     "refused 4 3": [filed(FIVE_11, "ffff0200 ff", UNCLEAN[:11], SHORT_MR_SHORT_CTR)],
-    "refused 5 0": [filed(FIVE_11, "ffff0200 ff", UNCLEAN[:11], ALL_CR)],
+    "refused 5 0": [filed(FIVE_11, "ffff0200 ff", UNCLEAN[:11], CR_TO_AR)],
     "refused 6 0": [filed(FIVE_11, "ffff0200 ff", UNCLEAN[:11], AR_FROM_KR)],
     # The memory body, with a trace that fails in some of them.
     "refused 14 0": [

@@ -36,12 +36,14 @@ pub length-bytes : (a n : ℕ) (memory : List ℕ) → a + n ≤ length memory �
 length-bytes a n memory h = simp (length-take, length-drop) (omega arith)
 
 -- memories of one length that agree at each address of a region have the same bytes there
-pub region-agrees : (r : Region) (x y : List ℕ) → length x ≡ length y → ((a : ℕ) → within r a ≡ true → getD x a 0 ≡ getD y a 0)
+pub region-agrees : (r : Region) (x y : List ℕ) → length x ≡ length y
+    → ((a : ℕ) → within r a ≡ true → getD x a 0 ≡ getD y a 0)
     → bytesOf r x ≡ bytesOf r y
 region-agrees r x y e f =
     bytes-agree x y (r .lo) (size r) e (λ i h. f (r .lo + i) (ends-within r (r .lo + i) (omega arith) (omega arith)))
 
-pub due-is : (l : Layout) (memory : List ℕ) → due l memory ≡ reply (key l memory) (challenge l memory) (attested l memory)
+pub due-is : (l : Layout) (memory : List ℕ)
+    → due l memory ≡ reply (key l memory) (challenge l memory) (attested l memory)
 unfolding due
 due-is l memory = refl
 
@@ -96,8 +98,10 @@ module _ (l : Layout) (p : Placed l) (memory : List ℕ) (long : length memory �
       let n = length-challenge in
       let d = length-due l memory in
       let s = p .counter in
-      stored-off first (l .ctr .lo) (challenge l memory) a (elim (outside-ends (l .ctr) a (o .1)) [ inl h ↦ inl (omega arith) | inr h ↦ inr (omega arith) ])
-      ∙ stored-off memory (replyAt l) (due l memory) a (elim (outside-ends r a (o .0)) [ inl h ↦ inl (omega arith) | inr h ↦ inr (omega arith) ])
+      stored-off first (l .ctr .lo) (challenge l memory) a
+      (elim (outside-ends (l .ctr) a (o .1)) [ inl h ↦ inl (omega arith) | inr h ↦ inr (omega arith) ])
+      ∙ stored-off memory (replyAt l) (due l memory) a
+      (elim (outside-ends r a (o .0)) [ inl h ↦ inl (omega arith) | inr h ↦ inr (omega arith) ])
 
 pub bytes-accepted : (l : Layout) (memory : List ℕ) → Bytes memory → Bytes (accepted l memory)
 unfolding accepted due
@@ -113,7 +117,8 @@ pub record Allowed (memory layout : List ℕ) : Type 0 where
   pub long : length memory ≡ memoryBytes
   pub laid : layoutCheck layout ≡ Done
   pub fresh : greater (challenge (layoutOf layout) memory) (counter (layoutOf layout) memory) ≡ true
-  pub genuine : token (key (layoutOf layout) memory) (challenge (layoutOf layout) memory) ≡ received (layoutOf layout) memory
+  pub genuine : token (key (layoutOf layout) memory) (challenge (layoutOf layout) memory) ≡ received
+      (layoutOf layout) memory
 
 pub done-allowed : (memory layout : List ℕ) → attestCheck memory layout ≡ Done → Allowed memory layout
 unfolding attestCheck
@@ -124,7 +129,8 @@ done-allowed memory layout e =
 
 pub allowed-done : (memory layout : List ℕ) → Allowed memory layout → attestCheck memory layout ≡ Done
 unfolding attestCheck
-allowed-done memory layout a = call-rest memory layout _ (a .long) (a .laid) ∙ request-passes _ _ _ _ (a .fresh) (a .genuine)
+allowed-done memory layout a = call-rest memory layout _ (a .long) (a .laid)
+    ∙ request-passes _ _ _ _ (a .fresh) (a .genuine)
 
 -- the others are refused with 1 to 6, 10 or 11
 pub attest-numbers : (memory layout : List ℕ) → Refuses Listed (attestCheck memory layout)
@@ -143,5 +149,6 @@ attested-done memory layout memory′ p =
 pub attested-refused : (memory layout memory′ : List ℕ) (q : Refusal) → Attests memory layout memory′ (Refused q)
     → Listed (q .number) × (memory′ ≡ memory)
 attested-refused memory layout memory′ q p =
-    let e : attestCheck memory layout ≡ Refused q = sym (row-settled (Refused q) (attestCheck memory layout) (p .answered)) in
+    let e : attestCheck memory layout ≡ Refused q =
+    sym (row-settled (Refused q) (attestCheck memory layout) (p .answered)) in
     (attest-numbers memory layout q e, p .memory-left ∙ simp e)

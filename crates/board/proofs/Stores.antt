@@ -6,7 +6,8 @@ use Prim.Native.Nat.{ℕ, zero, suc, _+_, _≤_, _<_, _-_}
 use native.Mathlib.Nat.{add-zero, not-suc-le-zero, le-of-suc-le-suc}
 use native.Mathlib.Omega.{arith}
 use lib.ListN.{length, getD, take, drop, set, length-take, length-drop}
-use lib.Seq.{sets, length-sets, sets-eq, getD-set-other, length-take-le, take-at, drop-at, getD-take, getD-drop, ext-getD}
+use lib.Seq.{sets, length-sets, sets-eq, getD-set-other, length-take-le, take-at, drop-at, getD-take, getD-drop}
+use lib.Seq.{ext-getD}
 use Rattle.notions.specs.Bytes.{Bytes}
 use Rattle.notions.proofs.Bytes.{bytes-take, bytes-drop}
 use Rattle.board.specs.Memory.{bytesAt}
@@ -17,7 +18,8 @@ pub byte-read : (l : List ℕ) (a n i : ℕ) → i < n → getD (bytesAt a n l) 
 byte-read l a n i h = getD-take n (drop a l) i 0 h ∙ getD-drop a l i 0
 
 -- memories of one length that agree at n addresses from a on have the same bytes there
-pub bytes-agree : (x y : List ℕ) (a n : ℕ) → length x ≡ length y → ((i : ℕ) → i < n → getD x (a + i) 0 ≡ getD y (a + i) 0)
+pub bytes-agree : (x y : List ℕ) (a n : ℕ) → length x ≡ length y
+    → ((i : ℕ) → i < n → getD x (a + i) 0 ≡ getD y (a + i) 0)
     → bytesAt a n x ≡ bytesAt a n y
 bytes-agree x y a n e f =
     ext-getD 0 (bytesAt a n x) (bytesAt a n y)
@@ -27,7 +29,8 @@ bytes-agree x y a n e f =
     byte-read x a n i hn ∙ f i hn ∙ sym (byte-read y a n i hn))
 
 -- where the same bytes are read, each is the same
-pub read-same : (x y : List ℕ) (a n : ℕ) → bytesAt a n x ≡ bytesAt a n y → (k : ℕ) → a ≤ k → k < a + n → getD x k 0 ≡ getD y k 0
+pub read-same : (x y : List ℕ) (a n : ℕ) → bytesAt a n x ≡ bytesAt a n y → (k : ℕ) → a ≤ k → k < a + n
+    → getD x k 0 ≡ getD y k 0
 read-same x y a n e k p q =
     let i : ℕ = k - a in
     let s : a + i ≡ k = omega arith in

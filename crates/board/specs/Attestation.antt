@@ -13,11 +13,13 @@ use Rattle.layout.specs.Calls.{callCheck}
 use Rattle.routine.specs.Routine.{reply, requestCheck}
 use Rattle.board.specs.Memory.{key, counter, attested, challenge, received, replyAt}
 
+-- steps 1 and 2 on what stands in the memory
+abbrev pub requestCheckIn : Layout → List ℕ → Answer
+requestCheckIn l memory = requestCheck (key l memory) (challenge l memory) (received l memory) (counter l memory)
+
 -- refusals 1, 2 to 6, 10, 11
 unfoldable pub attestCheck : List ℕ → List ℕ → Answer
-attestCheck memory layout =
-    let l = layoutOf layout in
-    callCheck memory layout (requestCheck (key l memory) (challenge l memory) (received l memory) (counter l memory))
+attestCheck memory layout = callCheck memory layout (requestCheckIn (layoutOf layout) memory)
 
 -- their numbers
 abbrev pub Listed : ℕ → Type 0

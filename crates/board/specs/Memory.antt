@@ -1,10 +1,11 @@
 -- What attestation reads in a board's memory, and where. Assumes nothing.
 use mathlib.Core.List.{List}
-use Prim.Native.Nat.{ℕ, _+_}
+use Prim.Native.Nat.{ℕ, _+_, _*_}
 use lib.ListN.{take, drop}
 use Rattle.layout.specs.declared.Region.{Region}
 use Rattle.layout.specs.declared.Layout.{Layout}
 use Rattle.layout.specs.Regions.{size}
+use Rattle.routine.specs.Routine.{stringBytes}
 
 -- n bytes of the memory from address a on
 abbrev pub bytesAt : ℕ → ℕ → List ℕ → List ℕ
@@ -25,15 +26,15 @@ counter l memory = bytesOf (l .ctr) memory
 abbrev pub attested : Layout → List ℕ → List ℕ
 attested l memory = bytesOf (l .ar) memory
 
--- challenges, tokens and replies are 32 bytes: the challenge is MR's first 32, the token the next 32, the reply the next 32
+-- the challenge is MR's first 32 bytes, the token the next 32, the reply the next 32
 abbrev pub challenge : Layout → List ℕ → List ℕ
-challenge l memory = bytesAt (l .mr .lo) 32 memory
+challenge l memory = bytesAt (l .mr .lo) stringBytes memory
 
 abbrev pub received : Layout → List ℕ → List ℕ
-received l memory = bytesAt (l .mr .lo + 32) 32 memory
+received l memory = bytesAt (l .mr .lo + stringBytes) stringBytes memory
 
 abbrev pub replyAt : Layout → ℕ
-replyAt l = l .mr .lo + 64
+replyAt l = l .mr .lo + 2 * stringBytes
 
 abbrev pub replied : Layout → List ℕ → List ℕ
-replied l memory = bytesAt (replyAt l) 32 memory
+replied l memory = bytesAt (replyAt l) stringBytes memory

@@ -3,23 +3,21 @@ use layout::Checked;
 use layout::Layout;
 use layout::Region;
 use refusal::Answer;
+use routine::STRING;
 ghost use mathlib.Core.Path.{_≡_};
 ghost use Prim.Native.Nat.{_+_, _≤_, _<_};
 ghost use lib.ListN.{length};
-ghost use Rattle.refusal.specs.Answers.{row, lent};
+ghost use Rattle.refusal.specs.Answers.{row, afterCall};
 ghost use Rattle.layout.specs.Regions.{size};
 ghost use Rattle.layout.specs.Calls.{memoryBytes};
-ghost use Rattle.routine.specs.Routine.{token, replyTo, requestCheck};
+ghost use Rattle.routine.specs.Routine.{stringBytes, token, replyTo};
 ghost use Rattle.board.specs.Memory as M;
 ghost use Rattle.board.specs.Attestation as S;
 ghost use Rattle.board.specs.Promises as P;
 ghost use Rattle.board.specs.Inner as I;
 
-// The bytes of a challenge, a token or a reply. They stand in MR in this order.
-const STRING: usize = 32;
-
-// A region's lowest address.
-fn lowest(r: Region) -> usize
+// A region's lowest address. Its highest is below 65,536, as an address is.
+fn lowest_in_memory(r: Region) -> usize
     ensures { λ a. ⌜ (a ≡ r .lo) × (r .hi < memoryBytes) ⌝ }
 {
     r.lo as usize
@@ -28,17 +26,18 @@ fn lowest(r: Region) -> usize
 // A region's bytes, where they stand.
 fn part(memory: &[u8], r: Region) -> &[u8]
     requires { ⌜ (length (now memory) ≡ memoryBytes) × (1 ≤ size r) ⌝ }
-    ensures { λ x. ⌜ (now x ≡ M.bytesOf r (now (memory .entry))) × (length (now x) ≡ size r) × (size r ≤ memoryBytes) ⌝ }
+    ensures { λ x. ⌜ (now x ≡ M.bytesOf r (now (memory .entry))) × (length (now x) ≡ size r)
+        × (size r ≤ memoryBytes) ⌝ }
 {
     let a = r.lo as usize;
     let e = r.hi as usize + 1;
     &memory[a..e]
 }
 
-// 32 bytes, where they stand.
+// A challenge, a token or a reply, where it stands: in MR in this order.
 fn string(memory: &[u8], a: usize) -> &[u8]
-    requires { ⌜ a + 32 ≤ length (now memory) ⌝ }
-    ensures { λ x. ⌜ (now x ≡ M.bytesAt a 32 (now (memory .entry))) × (length (now x) ≡ 32) ⌝ }
+    requires { ⌜ a + stringBytes ≤ length (now memory) ⌝ }
+    ensures { λ x. ⌜ (now x ≡ M.bytesAt a stringBytes (now (memory .entry))) × (length (now x) ≡ stringBytes) ⌝ }
 {
     let e = a + STRING;
     &memory[a..e]
@@ -47,11 +46,9 @@ fn string(memory: &[u8], a: usize) -> &[u8]
 // Steps 1 and 2, which only read.
 fn authorise(memory: &[u8], l: Layout) -> Answer
     requires { ⌜ (length (now memory) ≡ memoryBytes) × I.Sized l ⌝ }
-    ensures { λ r. ⌜ row r
-        ≡ row (requestCheck (M.key l (now (memory .entry))) (M.challenge l (now (memory .entry)))
-        (M.received l (now (memory .entry))) (M.counter l (now (memory .entry)))) ⌝ }
+    ensures { λ r. ⌜ row r ≡ row (S.requestCheckIn l (now (memory .entry))) ⌝ }
 {
-    let mail = lowest(l.mr);
+    let mail = lowest_in_memory(l.mr);
     let key = part(memory, l.kr);
     let counter = part(memory, l.ctr);
     let challenge = string(memory, mail);
@@ -60,13 +57,13 @@ fn authorise(memory: &[u8], l: Layout) -> Answer
 }
 
 // The reply of step 3 to the token that came, which only reads.
-fn reply(memory: &[u8], l: Layout) -> [u8; 32]
+fn reply(memory: &[u8], l: Layout) -> [u8; STRING]
     requires { ⌜ (length (now memory) ≡ memoryBytes) × I.Sized l ⌝ }
     ensures { λ r. ⌜ r
         ≡ replyTo (M.key l (now (memory .entry))) (M.received l (now (memory .entry)))
         (M.attested l (now (memory .entry))) ⌝ }
 {
-    let mail = lowest(l.mr);
+    let mail = lowest_in_memory(l.mr);
     let key = part(memory, l.kr);
     let region = part(memory, l.ar);
     let received = string(memory, mail + STRING);
@@ -74,10 +71,10 @@ fn reply(memory: &[u8], l: Layout) -> [u8; 32]
     r
 }
 
-// 32 bytes copied out of the memory.
-fn copy(memory: &[u8], a: usize) -> [u8; 32]
-    requires { ⌜ a + 32 ≤ length (now memory) ⌝ }
-    ensures { λ r. ⌜ r ≡ M.bytesAt a 32 (now (memory .entry)) ⌝ }
+// The same, copied out of the memory.
+fn copy(memory: &[u8], a: usize) -> [u8; STRING]
+    requires { ⌜ a + stringBytes ≤ length (now memory) ⌝ }
+    ensures { λ r. ⌜ r ≡ M.bytesAt a stringBytes (now (memory .entry)) ⌝ }
 {
     let mut x = [0u8; STRING];
     octets::store(&mut x, 0, string(memory, a));
@@ -90,8 +87,8 @@ fn accept(memory: &mut [u8], l: Layout)
         × (token (M.key l (now memory)) (M.challenge l (now memory)) ≡ M.received l (now memory)) ⌝ }
     ensures { λ r. ⌜ now (memory .exit) ≡ S.accepted l (now (memory .entry)) ⌝ }
 {
-    let mail = lowest(l.mr);
-    let counter = lowest(l.ctr);
+    let mail = lowest_in_memory(l.mr);
+    let counter = lowest_in_memory(l.ctr);
     let challenge = copy(memory, mail);
     let due = reply(memory, l);
     octets::store(memory, mail + 2 * STRING, &due);
@@ -101,13 +98,10 @@ fn accept(memory: &mut [u8], l: Layout)
 // The routine: steps 1 and 2 and, if they refuse nothing, step 3.
 fn answer(memory: &mut [u8], l: Layout) -> Answer
     requires { ⌜ (length (now memory) ≡ memoryBytes) × I.Sized l ⌝ }
-    ensures { λ r. ⌜ (row r
-        ≡ row (requestCheck (M.key l (now (memory .entry))) (M.challenge l (now (memory .entry)))
-        (M.received l (now (memory .entry))) (M.counter l (now (memory .entry)))))
+    ensures { λ r. ⌜ (row r ≡ row (S.requestCheckIn l (now (memory .entry))))
         × (now (memory .exit)
-        ≡ lent (requestCheck (M.key l (now (memory .entry))) (M.challenge l (now (memory .entry)))
-        (M.received l (now (memory .entry))) (M.counter l (now (memory .entry))))
-        (S.accepted l (now (memory .entry))) (now (memory .entry))) ⌝ }
+        ≡ afterCall (S.requestCheckIn l (now (memory .entry))) (S.accepted l (now (memory .entry)))
+        (now (memory .entry))) ⌝ }
 {
     match authorise(memory, l) {
         Answer::Done => {

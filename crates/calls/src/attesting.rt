@@ -1,16 +1,25 @@
 // The calls of board and station.
+use crate::lent_argument;
 use crate::line;
+use frames::argument;
 
-fn attest(memory: &mut [u8], layout: &[u8]) {
-    line::attested(board::attest(memory, layout));
+fn attest_on(call: &[u8], memory: &mut [u8]) {
+    line::attested(board::attest(memory, argument(call, 1)));
     line::memory(memory);
 }
 
-// Calls 4 to 6.
-pub fn make(number: u8, a: &mut [u8], b: &[u8], c: &[u8], d: &[u8]) {
-    match number {
-        4 => attest(a, b),
-        5 => line::token(station::token(a, b)),
-        _ => line::verdict(station::check(a, b, c, d)),
-    }
+pub fn attest(call: &[u8], memory: &mut [u8]) {
+    let m = lent_argument::copy(call, 0, memory);
+    attest_on(call, &mut memory[0..m]);
+}
+
+pub fn token(call: &[u8]) {
+    line::token(station::token(argument(call, 0), argument(call, 1)));
+}
+
+pub fn check_reply(call: &[u8]) {
+    let key = argument(call, 0);
+    let challenge = argument(call, 1);
+    let reply = argument(call, 2);
+    line::verdict(station::check(key, challenge, reply, argument(call, 3)));
 }

@@ -1,38 +1,41 @@
 // The calls of hash, HMAC and the running hash, by value and lent.
 use crate::line;
+use frames::argument;
+use sha256::Sha;
 
-fn take_in(state: &[u8], bytes: &[u8]) {
-    line::taken(codecs::state_of(state).take_in(bytes));
+pub fn hash(call: &[u8]) {
+    line::hash(sha256::hash(argument(call, 0)));
 }
 
-fn finish(state: &[u8]) {
-    let s = codecs::state_of(state);
+pub fn mac(call: &[u8]) {
+    line::mac(hmac::mac(argument(call, 0), argument(call, 1)));
+}
+
+// The state that a call of the running hash begins with.
+fn state(call: &[u8]) -> Sha {
+    state_codecs::state_of(argument(call, 0))
+}
+
+pub fn take_in(call: &[u8]) {
+    line::taken(state(call).take_in(argument(call, 1)));
+}
+
+pub fn finish(call: &[u8]) {
+    let s = state(call);
     line::hash(s.finish());
     line::state(s);
 }
 
-fn lent_take_in(state: &[u8], bytes: &[u8]) {
-    let s = codecs::state_of(state);
+pub fn lent_take_in(call: &[u8]) {
+    let s = state(call);
     let words = s.words;
     let block = s.block;
-    line::taken(lent::take_in_at(words, block, s.total, bytes));
+    line::taken(lent_hash::take_in_with_fields(words, block, s.total, argument(call, 1)));
 }
 
-fn lent_finish(state: &[u8]) {
-    let s = codecs::state_of(state);
+pub fn lent_finish(call: &[u8]) {
+    let s = state(call);
     let words = s.words;
     let block = s.block;
-    line::finished(lent::finish_at(words, block, s.total));
-}
-
-// Calls 7 to 12.
-pub fn make(number: u8, a: &[u8], b: &[u8]) {
-    match number {
-        7 => line::hash(sha256::hash(a)),
-        8 => line::mac(hmac::mac(a, b)),
-        9 => take_in(a, b),
-        10 => finish(a),
-        11 => lent_take_in(a, b),
-        _ => lent_finish(a),
-    }
+    line::finished(lent_hash::finish_with_fields(words, block, s.total));
 }

@@ -1,6 +1,6 @@
 // The lines that tell what a call answered, and what it left.
 use layout::Checked;
-use lent::Finished;
+use lent_hash::Finished;
 use libc::STDOUT_FILENO;
 use monitor::Stepped;
 use monitor::Totals;
@@ -10,7 +10,8 @@ use reader::Read;
 use refusal::Answer;
 use refusal::Refusal;
 use rules::Monitor;
-use sha256::Digest;
+use steps::Step;
+use sha256::Bytes32;
 use sha256::Sha;
 use sha256::Taken;
 use station::Verdict;
@@ -21,10 +22,6 @@ fn text(bytes: &[u8]) {
     io::write_all(STDOUT_FILENO, bytes);
 }
 
-fn wide(x: u8) -> u64 {
-    x as u64
-}
-
 fn field(name: &[u8], n: u64) {
     text(name);
     io::print_decimal(STDOUT_FILENO, n);
@@ -33,12 +30,12 @@ fn field(name: &[u8], n: u64) {
 fn hex(bytes: &[u8], digits: &mut [u8]) -> usize
     ensures { λ r. ⌜ r ≤ length (now (digits .exit)) ⌝ }
 {
-    codecs::hex(bytes, digits)
+    hex_text::write(bytes, digits)
 }
 
 // Bytes in hexadecimal digits; a state is the longest that there is to print.
 fn given(name: &[u8], bytes: &[u8]) {
-    let mut digits = [0u8; 2 * codecs::STATE];
+    let mut digits = [0u8; 2 * state_codecs::STATE_BYTES];
     let n = hex(bytes, &mut digits);
     text(name);
     text(&digits[0..n]);
@@ -46,7 +43,7 @@ fn given(name: &[u8], bytes: &[u8]) {
 }
 
 fn refused(r: Refusal) {
-    field(b"refused ", wide(r.number));
+    field(b"refused ", r.number as u64);
     field(b" ", r.place as u64);
     text(b"\n");
 }
@@ -58,7 +55,7 @@ fn answer(a: Answer, done: &[u8]) {
     }
 }
 
-fn digest(name: &[u8], d: Digest) {
+fn digest(name: &[u8], d: Bytes32) {
     let a = d.answer;
     let bytes = d.bytes;
     match a {
@@ -76,13 +73,13 @@ pub fn checked(c: Checked) {
     }
 }
 
+fn bit(on: bool) -> u64 {
+    if on { 1 } else { 0 }
+}
+
 fn monitor(m: Monitor) {
-    if m.held {
-        text(b"held 1");
-    } else {
-        text(b"held 0");
-    }
-    field(b" last ", m.last as u64);
+    field(b"held ", bit(m.held));
+    field(b" last ", m.lastpc as u64);
     text(b"\n");
 }
 
@@ -110,7 +107,7 @@ pub fn attested(a: Answer) {
     answer(a, b"accepted\n");
 }
 
-pub fn token(d: Digest) {
+pub fn token(d: Bytes32) {
     digest(b"token ", d);
 }
 
@@ -122,20 +119,22 @@ pub fn verdict(v: Verdict) {
     }
 }
 
-pub fn hash(d: Digest) {
+pub fn hash(d: Bytes32) {
     digest(b"hash ", d);
 }
 
-pub fn mac(d: Digest) {
+pub fn mac(d: Bytes32) {
     digest(b"mac ", d);
+}
+
+fn step(s: Step) {
+    let bytes = step_codecs::step_bytes(s);
+    given(b"step ", &bytes);
 }
 
 fn read(r: Read) {
     match r {
-        Read::Step(s) => {
-            let bytes = codecs::step_bytes(s);
-            given(b"step ", &bytes);
-        }
+        Read::Step(s) => step(s),
         Read::End => text(b"end\n"),
         Read::Refused(f) => refused(f),
     }
@@ -158,7 +157,7 @@ pub fn room(bytes: &[u8]) {
 }
 
 pub fn state(s: Sha) {
-    let bytes = codecs::state_bytes(s);
+    let bytes = state_codecs::state_bytes(s);
     given(b"state ", &bytes);
 }
 

@@ -1,72 +1,55 @@
-// Makes the calls that standard input lists, one after another, and prints what came back of each. docs/CALLS.md says how a call is
-// written, and what is printed of it.
-mod argument;
+// Makes the calls that standard input lists, one after another, and prints what came back of each. docs/CALLS.md says
+// how a call is written, and what is printed of it.
 mod attesting;
+mod files;
 mod hashing;
+mod lent_argument;
 mod line;
 mod monitoring;
+mod reading;
 mod stream;
 
 use stream::Next;
 
 type Call = [u8; stream::ROOM];
 
-// Each argument of a call has a room of its own, so that some of them can be lent.
-type Room = [u8; frames::MOST];
+// The arguments that a call may change, its memory and its room, have rooms of their own, so that they can be lent to
+// it.
+type Room = [u8; frames::MOST_ARGUMENT_BYTES];
 
-// The call with this number, and its arguments in order.
-fn make(number: u8, a: &mut [u8], b: &mut [u8], c: &mut [u8], d: &mut [u8], e: &mut [u8]) {
-    if (number < 4) | (12 < number) {
-        monitoring::make(number, a, b, c, d, e);
-    } else if number < 7 {
-        attesting::make(number, a, b, c, d);
-    } else {
-        hashing::make(number, a, b);
+// The calls that change nothing.
+fn make_reading(number: u8, call: &[u8]) {
+    match number {
+        1 => monitoring::check(call),
+        5 => attesting::token(call),
+        6 => attesting::check_reply(call),
+        7 => hashing::hash(call),
+        8 => hashing::mac(call),
+        9 => hashing::take_in(call),
+        10 => hashing::finish(call),
+        11 => hashing::lent_take_in(call),
+        12 => hashing::lent_finish(call),
+        13 => reading::next(call),
+        _ => {}
     }
 }
 
-// The first two arguments are in a and b.
-fn unpack_rest(
-    number: u8,
-    call: &[u8],
-    a: &mut [u8],
-    b: &mut [u8],
-    c: &mut [u8],
-    d: &mut [u8],
-    e: &mut [u8],
-) {
-    let k = argument::of(call, 2, c);
-    let l = argument::of(call, 3, d);
-    let m = argument::of(call, 4, e);
-    make(number, a, b, &mut c[0..k], &mut d[0..l], &mut e[0..m]);
-}
-
-fn unpack(
-    number: u8,
-    call: &[u8],
-    a: &mut [u8],
-    b: &mut [u8],
-    c: &mut [u8],
-    d: &mut [u8],
-    e: &mut [u8],
-) {
-    let i = argument::of(call, 0, a);
-    let j = argument::of(call, 1, b);
-    unpack_rest(number, call, &mut a[0..i], &mut b[0..j], c, d, e);
+// The calls that change their memory or their room, and all others.
+fn make(number: u8, call: &[u8], memory: &mut [u8], room: &mut [u8]) {
+    match number {
+        2 => monitoring::step(call, memory, room),
+        3 => monitoring::trace(call, memory, room),
+        4 => attesting::attest(call, memory),
+        14 => files::judge(call, memory, room),
+        _ => make_reading(number, call),
+    }
 }
 
 // Makes the next call, and tells whether there was one.
-fn next(
-    call: &mut Call,
-    a: &mut Room,
-    b: &mut Room,
-    c: &mut Room,
-    d: &mut Room,
-    e: &mut Room,
-) -> bool {
+fn next(call: &mut Call, memory: &mut Room, room: &mut Room) -> bool {
     match stream::read(call) {
         Next::Call => {
-            unpack(call[0], call, a, b, c, d, e);
+            make(call[0], call, memory, room);
             true
         }
         Next::End => false,
@@ -78,19 +61,16 @@ fn next(
 }
 
 // Nothing says that the input ends, and a proved loop has to: the turns count down from a number that no run uses up.
-fn all(call: &mut Call, a: &mut Room, b: &mut Room, c: &mut Room, d: &mut Room, e: &mut Room) {
+fn all(call: &mut Call, memory: &mut Room, room: &mut Room) {
     let mut turns = u64::MAX;
-    while turns > 0 && next(call, a, b, c, d, e) {
+    while turns > 0 && next(call, memory, room) {
         turns -= 1;
     }
 }
 
 fn main() {
     let mut call = [0u8; stream::ROOM];
-    let mut a = [0u8; frames::MOST];
-    let mut b = [0u8; frames::MOST];
-    let mut c = [0u8; frames::MOST];
-    let mut d = [0u8; frames::MOST];
-    let mut e = [0u8; frames::MOST];
-    all(&mut call, &mut a, &mut b, &mut c, &mut d, &mut e);
+    let mut memory = [0u8; frames::MOST_ARGUMENT_BYTES];
+    let mut room = [0u8; frames::MOST_ARGUMENT_BYTES];
+    all(&mut call, &mut memory, &mut room);
 }

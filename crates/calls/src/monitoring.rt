@@ -1,35 +1,33 @@
-// The calls of layout, monitor, step reader and run files.
+// The calls of layout and monitor.
+use crate::lent_argument;
 use crate::line;
+use frames::argument;
 
-fn step(memory: &mut [u8], layout: &[u8], step: &[u8], from: &[u8], room: &mut [u8]) {
-    line::stepped(monitor::step(memory, layout, step, codecs::monitor_of(from), room));
+pub fn check(call: &[u8]) {
+    line::checked(layout::check(argument(call, 0)));
+}
+
+fn step_on(call: &[u8], memory: &mut [u8], room: &mut [u8]) {
+    let from = step_codecs::monitor_of(argument(call, 3));
+    line::stepped(monitor::step(memory, argument(call, 1), argument(call, 2), from, room));
     line::memory(memory);
     line::room(room);
 }
 
-fn trace(memory: &mut [u8], layout: &[u8], trace: &[u8], room: &mut [u8]) {
-    line::traced(monitor::trace(memory, layout, trace, room));
+pub fn step(call: &[u8], memory: &mut [u8], room: &mut [u8]) {
+    let m = lent_argument::copy(call, 0, memory);
+    let r = lent_argument::copy(call, 4, room);
+    step_on(call, &mut memory[0..m], &mut room[0..r]);
+}
+
+fn trace_on(call: &[u8], memory: &mut [u8], room: &mut [u8]) {
+    line::traced(monitor::trace(memory, argument(call, 1), argument(call, 2), room));
     line::memory(memory);
     line::room(room);
 }
 
-fn next(trace: &[u8], place: &[u8]) {
-    line::advanced(reader::next_at(trace, octets::number(place) as usize));
-}
-
-fn judge(file: &[u8], memory: &mut [u8], room: &mut [u8]) {
-    line::traced(runfile::judge(file, memory, room));
-    line::memory(memory);
-    line::room(room);
-}
-
-// Calls 1 to 3, 13 and 14.
-pub fn make(number: u8, a: &mut [u8], b: &mut [u8], c: &mut [u8], d: &mut [u8], e: &mut [u8]) {
-    match number {
-        1 => line::checked(layout::check(a)),
-        2 => step(a, b, c, d, e),
-        3 => trace(a, b, c, d),
-        13 => next(a, b),
-        _ => judge(a, b, c),
-    }
+pub fn trace(call: &[u8], memory: &mut [u8], room: &mut [u8]) {
+    let m = lent_argument::copy(call, 0, memory);
+    let r = lent_argument::copy(call, 3, room);
+    trace_on(call, &mut memory[0..m], &mut room[0..r]);
 }

@@ -58,7 +58,8 @@ fn read_into(room: &mut [u8]) -> Next
     Next::Cut
 }
 
-// Reads a call into the room, and never a byte that is not the call's. What stands behind it there is left from calls before.
+// Reads a call into the room, and never a byte that is not the call's. What stands behind it there is left from calls
+// before.
 pub fn read(room: &mut [u8; ROOM]) -> Next {
     read_into(room)
 }

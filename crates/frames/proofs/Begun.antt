@@ -10,8 +10,8 @@ use lib.Seq.{length-take-le, take-take, take-append-add}
 use Rattle.octets.specs.Numbers.{number, little}
 use Rattle.frames.specs.declared.Framed.{Framed}
 use Rattle.frames.specs.declared.Framed.the-variants.{Needs}
-use Rattle.frames.specs.Calls.{most, allowed}
-use Rattle.frames.specs.Frames.{size, behind, framedOne, andThen, framedFrom}
+use Rattle.frames.specs.Calls.{mostArgumentBytes, allowed}
+use Rattle.frames.specs.Frames.{size, behind, framedOne, ifWhole, framedFrom}
 use Rattle.frames.proofs.Walk.{one-short, one-part, from-suc}
 use Rattle.frames.proofs.Sent.{length-front, length-sent, length-first, size-back, passes, walk-sent}
 
@@ -24,7 +24,8 @@ pub record Begun (n i k used : ℕ) (whole : List ℕ) (j : ℕ) : Type 0 where
 
 -- an argument a and the bytes s behind it: the first j of them end in the length, in the argument, or behind it
 module _ (n i k used : ℕ) (a s : List ℕ) (j : ℕ)
-    (h : allowed n i (length a) ≡ true) (f : used + length a ≤ most) (l : j < length (little 4 (length a) ++ a ++ s)) where
+    (h : allowed n i (length a) ≡ true) (f : used + length a ≤ mostArgumentBytes)
+    (l : j < length (little 4 (length a) ++ a ++ s)) where
   abbrev d : List ℕ
   d = little 4 (length a) ++ a ++ s
 
@@ -34,13 +35,14 @@ module _ (n i k used : ℕ) (a s : List ℕ) (j : ℕ)
   stops : (m : ℕ) → framedOne n i used (take j d) ≡ Needs m → framedFrom n i (suc k) used (take j d) ≡ Needs m
   stops m e =
       from-suc n i k used (take j d)
-      ∙ ap (λ (g : Framed). andThen g (framedFrom n (suc i) k (used + size (take j d)) (behind (take j d)))) e
+      ∙ ap (λ (g : Framed). ifWhole g (framedFrom n (suc i) k (used + size (take j d)) (behind (take j d)))) e
 
   pub begun-length : j < 4 → Begun n i (suc k) used d j
   begun-length q =
       record {
         more = 4 - j;
-        asked-for = stops (4 - j) (one-short n i used (take j d) (omega (arith, length-part)) ∙ ap (λ (m : ℕ). Needs (4 - m)) length-part);
+        asked-for = stops (4 - j)
+            (one-short n i used (take j d) (omega (arith, length-part)) ∙ ap (λ (m : ℕ). Needs (4 - m)) length-part);
         some = omega arith;
         its-own = omega (arith, length-sent a s);
       }
@@ -49,8 +51,8 @@ module _ (n i k used : ℕ) (a s : List ℕ) (j : ℕ)
   begun-argument q r =
       let z : size (take j d) ≡ length a
       = ap number (take-take 4 j d q ∙ length-first a s) ∙ size-back a s (omega arith) in
-      let t : (not (allowed n i (size (take j d))) || ltb most (used + size (take j d))) ≡ false
-      = ap (λ (m : ℕ). not (allowed n i m) || ltb most (used + m)) z ∙ passes n i used (length a) h f in
+      let t : (not (allowed n i (size (take j d))) || ltb mostArgumentBytes (used + size (take j d))) ≡ false
+      = ap (λ (m : ℕ). not (allowed n i m) || ltb mostArgumentBytes (used + m)) z ∙ passes n i used (length a) h f in
       record {
         more = 4 + length a - j;
         asked-for = stops (4 + length a - j)
@@ -61,7 +63,8 @@ module _ (n i k used : ℕ) (a s : List ℕ) (j : ℕ)
         its-own = omega (arith, length-sent a s);
       }
 
-  pub begun-behind : 4 + length a ≤ j → Begun n (suc i) k (used + length a) s (j - (4 + length a)) → Begun n i (suc k) used d j
+  pub begun-behind : 4 + length a ≤ j → Begun n (suc i) k (used + length a) s (j - (4 + length a))
+      → Begun n i (suc k) used d j
   begun-behind q r =
       let e : j ≡ length (little 4 (length a) ++ a) + (j - (4 + length a)) = omega (arith, length-front a s) in
       record {

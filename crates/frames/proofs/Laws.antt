@@ -16,28 +16,15 @@ use Rattle.octets.specs.Numbers.{little}
 use Rattle.octets.proofs.Laws.{bytes-back}
 use Rattle.frames.specs.declared.Framed.{Framed}
 use Rattle.frames.specs.declared.Framed.the-variants.{Needs, Whole, Cut}
-use Rattle.frames.specs.Calls.{most, counts, count, allowed}
-use Rattle.frames.specs.Frames.{size, behind, framedOne, andThen, framedFrom, framed, firstArgument, skipped}
+use Rattle.frames.specs.Calls.{mostArgumentBytes, listed, count, allowed}
+use Rattle.frames.specs.Frames.{size, behind, framedOne, ifWhole, framedFrom, framed, firstArgument, skipped}
 use Rattle.frames.specs.Promises.{Copies}
 use Rattle.frames.specs.Streams.{sent, Lawful, WholeCall, BegunCall, IsCall, AsksForMore}
+use Rattle.frames.proofs.Table.{few-arguments}
 use Rattle.frames.proofs.Walk.{not-whole, one-is-whole, one-cases}
-use Rattle.frames.proofs.Sent.{Fits, lawful-fits, fits-lawful, fits-none, allowed-here, few-here, fits-behind, fits-more, length-sent, behind-sent, argument-sent, walk-sent}
+use Rattle.frames.proofs.Sent.{Fits, lawful-fits, fits-lawful, fits-none, allowed-here, few-here, fits-behind}
+use Rattle.frames.proofs.Sent.{fits-more, length-sent, behind-sent, argument-sent, walk-sent}
 use Rattle.frames.proofs.Begun.{Begun, begun-length, begun-argument, begun-behind}
-
--- ---- no call has more than five arguments
-
-abbrev allAtMost : ℕ → List ℕ → Bool
-allAtMost m [] = true
-allAtMost m (x ∷ xs) = leb x m && allAtMost m xs
-
-at-most : (m : ℕ) (xs : List ℕ) (k : ℕ) → allAtMost m xs ≡ true → getD xs k 0 ≤ m
-at-most m [] k e = omega arith
-at-most m (x ∷ xs) zero e = leb-true x m (both (leb x m) (allAtMost m xs) e .0)
-at-most m (x ∷ xs) (suc k) e = at-most m xs k (both (leb x m) (allAtMost m xs) e .1)
-
-five : (n : ℕ) → count n ≤ 5
-unfolding count
-five n = at-most 5 counts n refl
 
 -- ---- more bytes are asked for
 
@@ -51,17 +38,19 @@ asks (Needs k) = true
 asks Whole = false
 asks Cut = false
 
-asks-from : (n i k used : ℕ) (b : List ℕ) (m : ℕ) → used ≤ most → framedFrom n i k used b ≡ Needs m
-    → (0 < m) × (length b + m ≤ 4 * k + (most - used))
+asks-from : (n i k used : ℕ) (b : List ℕ) (m : ℕ) → used ≤ mostArgumentBytes → framedFrom n i k used b ≡ Needs m
+    → (0 < m) × (length b + m ≤ 4 * k + (mostArgumentBytes - used))
 unfolding framedFrom
 asks-from n i zero used b m u e = clash false (ap asks e) refl
 asks-from n i (suc k) used b m u e =
     let next = framedFrom n (suc i) k (used + size b) (behind b) in
-    let then : (f : Framed) → framedOne n i used b ≡ f → andThen f next ≡ Needs m = λ f q. sym (ap (λ (g : Framed). andThen g next) q) ∙ e in
+    let then : (f : Framed) → framedOne n i used b ≡ f → ifWhole f next ≡ Needs m
+    = λ f q. sym (ap (λ (g : Framed). ifWhole g next) q) ∙ e in
     one-cases n i used b
     (λ h q. let s : 4 - length b ≡ m = ap asked (then (Needs (4 - length b)) q) in (omega arith, omega arith))
     (λ q. clash false (ap asks (then Cut q)) refl)
-    (λ h f q. let s : 4 + size b - length b ≡ m = ap asked (then (Needs (4 + size b - length b)) q) in (omega arith, omega arith))
+    (λ h f q. let s : 4 + size b - length b ≡ m = ap asked (then (Needs (4 + size b - length b)) q) in
+    (omega arith, omega arith))
     (λ w q. let r = asks-from n (suc i) k (used + size b) (behind b) m (w .few) (then Whole q) in
     let l : length (behind b) ≡ length b - (4 + size b) = length-drop (4 + size b) b in
     (r .0, omega (arith, r .1, w .there, w .few, l)))
@@ -70,21 +59,22 @@ pub asks-for-more : AsksForMore
 unfolding framed
 asks-for-more [] k e = let s : 1 ≡ k = ap asked e in (omega arith, omega arith)
 asks-for-more (n ∷ b) k e =
-    let then : (t : Bool) → eqb (count n) 0 ≡ t → pick t Cut (framedFrom n 0 (count n) 0 b) ≡ Needs k
-    = λ t q. sym (ap (λ (x : Bool). pick x Cut (framedFrom n 0 (count n) 0 b)) q) ∙ e in
-    cases (eqb (count n) 0)
-    (λ q. clash false (ap asks (then true q)) refl)
-    (λ q. let r = asks-from n 0 (count n) 0 b k (omega arith) (then false q) in
-    (r .0, omega (arith, r .1, five n)))
+    let then : (t : Bool) → listed n ≡ t → pick t (framedFrom n 0 (count n) 0 b) Cut ≡ Needs k
+    = λ t q. sym (ap (λ (x : Bool). pick x (framedFrom n 0 (count n) 0 b) Cut) q) ∙ e in
+    cases (listed n)
+    (λ q. let r = asks-from n 0 (count n) 0 b k (omega arith) (then true q) in
+    (r .0, omega (arith, r .1, few-arguments n)))
+    (λ q. clash false (ap asks (then false q)) refl)
 
 -- ---- a whole call
 
-listed : (n : ℕ) (b : List ℕ) → 0 < count n → framed (n ∷ b) ≡ framedFrom n 0 (count n) 0 b
+listed-from : (n : ℕ) (b : List ℕ) → listed n ≡ true → framed (n ∷ b) ≡ framedFrom n 0 (count n) 0 b
 unfolding framed
-listed n b h = simp (ne-eqb (count n) 0 (λ e. omega (arith, e)))
+listed-from n b h = simp h
 
-lawful-from : (n : ℕ) (args : List (List ℕ)) (b : List ℕ) → Lawful n args → framed (n ∷ b) ≡ framedFrom n 0 (length args) 0 b
-lawful-from n args b l = listed n b (l .listed) ∙ ap (λ (k : ℕ). framedFrom n 0 k 0 b) (sym (l .many))
+lawful-from : (n : ℕ) (args : List (List ℕ)) (b : List ℕ) → Lawful n args
+    → framed (n ∷ b) ≡ framedFrom n 0 (length args) 0 b
+lawful-from n args b l = listed-from n b (l .is-listed) ∙ ap (λ (k : ℕ). framedFrom n 0 k 0 b) (sym (l .many))
 
 whole-from : (n i used : ℕ) (args : List (List ℕ)) (b : List ℕ) → Fits n i used args
     → framedFrom n i (length args) used (sent args ++ b) ≡ Whole
@@ -104,7 +94,8 @@ arguments-from n i used (a ∷ args) b f zero h =
     ∙ argument-sent a (sent args ++ b) (omega (arith, few-here n i used a args f))
 arguments-from n i used (a ∷ args) b f (suc j) h =
     ap (λ (d : List ℕ). firstArgument (skipped (suc j) d)) (append-assoc (little 4 (length a) ++ a) (sent args) b)
-    ∙ ap (λ (d : List ℕ). firstArgument (skipped j d)) (behind-sent a (sent args ++ b) (omega (arith, few-here n i used a args f)))
+    ∙ ap (λ (d : List ℕ). firstArgument (skipped j d))
+    (behind-sent a (sent args ++ b) (omega (arith, few-here n i used a args f)))
     ∙ arguments-from n (suc i) (used + length a) args b (fits-behind n i used a args f) j (omega arith)
 
 pub whole-call : WholeCall
@@ -127,7 +118,8 @@ begun-from n i used (a ∷ args) j f l =
     (λ q. begun-argument n i (length args) used a (sent args) j h u l (ltb-false j 4 e) (ltb-true j (4 + length a) q))
     (λ q. let g = ltb-false j (4 + length a) q in
     begun-behind n i (length args) used a (sent args) j h u l g
-    (begun-from n (suc i) (used + length a) args (j - (4 + length a)) (fits-behind n i used a args f) (omega (arith, length-sent a (sent args), l, g)))))
+    (begun-from n (suc i) (used + length a) args (j - (4 + length a)) (fits-behind n i used a args f)
+    (omega (arith, length-sent a (sent args), l, g)))))
 
 pub begun-call : BegunCall
 unfolding framed
@@ -151,7 +143,7 @@ record Begins (n i k used : ℕ) (b : List ℕ) : Type 0 where
   many : length args ≡ k
   fits : Fits n i used args
 
-both-whole : (one f : Framed) → andThen one f ≡ Whole → (one ≡ Whole) × (f ≡ Whole)
+both-whole : (one f : Framed) → ifWhole one f ≡ Whole → (one ≡ Whole) × (f ≡ Whole)
 both-whole (Needs k) f e = not-whole (Needs k) refl e
 both-whole Whole f e = (refl, e)
 both-whole Cut f e = not-whole Cut refl e
@@ -162,16 +154,19 @@ argument-said : (b : List ℕ) → Bytes b → 4 + size b ≤ length b
     × (little 4 (size b) ++ take (size b) (drop 4 b) ++ behind b ≡ b)
 argument-said b p h =
     let four : length (take 4 b) ≡ 4 = length-take-le 4 b (omega arith) in
-    let back : little 4 (size b) ≡ take 4 b = ap (λ (k : ℕ). little k (size b)) (sym four) ∙ bytes-back (take 4 b) (bytes-take 4 b p) in (
+    let back : little 4 (size b) ≡ take 4 b
+    = ap (λ (k : ℕ). little k (size b)) (sym four) ∙ bytes-back (take 4 b) (bytes-take 4 b p) in (
       length-take-le (size b) (drop 4 b) (omega (arith, length-drop 4 b)),
       ap (λ (x : List ℕ). x ++ take (size b) (drop 4 b) ++ behind b) back
           ∙ ap (λ (x : List ℕ). x ++ behind b) (sym (take-add 4 (size b) b))
           ∙ take-append-drop (4 + size b) b,
     )
 
-begins-from : (n i k used : ℕ) (b : List ℕ) → Bytes b → used ≤ most → framedFrom n i k used b ≡ Whole → Begins n i k used b
+begins-from : (n i k used : ℕ) (b : List ℕ) → Bytes b → used ≤ mostArgumentBytes → framedFrom n i k used b ≡ Whole
+    → Begins n i k used b
 unfolding framedFrom sent
-begins-from n i zero used b p u w = record { args = []; rest = b; said = refl; many = refl; fits = fits-none n i used u }
+begins-from n i zero used b p u w =
+    record { args = []; rest = b; said = refl; many = refl; fits = fits-none n i used u }
 begins-from n i (suc k) used b p u w =
     let two = both-whole (framedOne n i used b) (framedFrom n (suc i) k (used + size b) (behind b)) w in
     let one = one-is-whole n i used b (two .0) in
@@ -195,16 +190,15 @@ pub is-call : IsCall
 unfolding framed
 is-call [] p w = not-whole (Needs 1) refl w
 is-call (n ∷ b) p w =
-    cases (eqb (count n) 0)
-    (λ q. not-whole Cut refl (sym (ap (λ (x : Bool). pick x Cut (framedFrom n 0 (count n) 0 b)) q) ∙ w))
-    (λ q. let z : 0 < count n = omega (arith, eqb-false (count n) 0 q) in
-    let r = begins-from n 0 (count n) 0 b (λ i. p (suc i)) (omega arith) (sym (listed n b z) ∙ w) in
+    cases (listed n)
+    (λ q. let r = begins-from n 0 (count n) 0 b (λ i. p (suc i)) (omega arith) (sym (listed-from n b q) ∙ w) in
     record {
       args = r .args;
       rest = r .rest;
       said = ap (λ (x : List ℕ). n ∷ x) (r .said);
-      lawful = fits-lawful n (r .args) z (r .many) (r .fits);
+      lawful = fits-lawful n (r .args) q (r .many) (r .fits);
     })
+    (λ q. not-whole Cut refl (sym (ap (λ (x : Bool). pick x (framedFrom n 0 (count n) 0 b) Cut) q) ∙ w))
 
 -- what `argument` answers is within the room
 pub copies-within : {b : List ℕ} {i : ℕ} {room room′ : List ℕ} {r : ℕ} → Copies b i room room′ r → r ≤ length room′

@@ -12,10 +12,12 @@ use borrow.Author.Tests.{lt-ltb, le-ltb, ltb-true, ltb-false, eq-eqb, ne-eqb}
 use Rattle.notions.proofs.Tests.{cases, clash, neither}
 use Rattle.frames.specs.declared.Framed.{Framed}
 use Rattle.frames.specs.declared.Framed.the-variants.{Needs, Whole, Cut}
-use Rattle.frames.specs.Calls.{most, counts, count, allowed}
-use Rattle.frames.specs.Frames.{size, behind, framedOne, andThen, framedFrom, framed, firstArgument, skipped, argument}
+use Rattle.frames.specs.Calls.{mostArgumentBytes, any, listed, count, allowed}
+use Rattle.frames.specs.Frames.{size, behind, framedOne, ifWhole, framedFrom, framed, firstArgument, skipped}
+use Rattle.frames.specs.Frames.{argument}
 use Rattle.frames.specs.Promises.{Copies}
-use Rattle.frames.specs.Inner.{isWhole}
+use Rattle.frames.specs.Inner.{entry, isWhole}
+use Rattle.frames.proofs.Table.{unlisted-entry, listed-entry}
 
 -- ---- answers
 
@@ -32,14 +34,11 @@ not-not : (t : Bool) → not t ≡ false → t ≡ true
 not-not true e = refl
 not-not false e = sym e
 
-pub unlisted : (n : ℕ) → 15 ≤ n → 0 ≡ count n
-unfolding count
-unlisted n h = sym (List·getD-eq-default counts 0 h)
-
 -- ---- the place behind an argument
 
 -- the bytes end before it
-pub behind-end : (b : List ℕ) (at : ℕ) → length b - at < 4 + size (drop at b) → (length b ≤ length b) × (drop (length b) b ≡ behind (drop at b))
+pub behind-end : (b : List ℕ) (at : ℕ) → length b - at < 4 + size (drop at b)
+    → (length b ≤ length b) × (drop (length b) b ≡ behind (drop at b))
 behind-end b at h =
     let l : length (drop at b) ≡ length b - at = length-drop at b in (
       omega arith,
@@ -50,8 +49,10 @@ behind-end b at h =
 pub behind-here : (b : List ℕ) (at s : ℕ) → s ≡ size (drop at b) → at ≤ length b → 4 + s ≤ length b - at
     → (at + 4 + s ≤ length b) × (drop (at + 4 + s) b ≡ behind (drop at b))
 behind-here b at s e m h =
-    let p : at + (4 + s) ≡ at + 4 + s = omega arith in
-    (omega arith, sym (ap (λ (k : ℕ). drop (4 + k) (drop at b)) (sym e) ∙ drop-drop (4 + s) at b ∙ ap (λ (k : ℕ). drop k b) p))
+    let p : at + (4 + s) ≡ at + 4 + s = omega arith in (
+      omega arith,
+      sym (ap (λ (k : ℕ). drop (4 + k) (drop at b)) (sym e) ∙ drop-drop (4 + s) at b ∙ ap (λ (k : ℕ). drop k b) p),
+    )
 
 -- ---- one argument
 
@@ -68,11 +69,12 @@ module _ (n i used : ℕ) (b : List ℕ) where
   one-short h = simp (lt-ltb (length b) 4 h)
 
   module _ (h : 4 ≤ length b) where
-    pub one-cut : (not (allowed n i (size b)) || ltb most (used + size b)) ≡ true → framedOne n i used b ≡ Cut
+    pub one-cut : (not (allowed n i (size b)) || ltb mostArgumentBytes (used + size b)) ≡ true
+        → framedOne n i used b ≡ Cut
     unfolding framedOne
     one-cut e = simp (le-ltb (length b) 4 h, e)
 
-    module _ (e : (not (allowed n i (size b)) || ltb most (used + size b)) ≡ false) where
+    module _ (e : (not (allowed n i (size b)) || ltb mostArgumentBytes (used + size b)) ≡ false) where
       pub one-part : length b < 4 + size b → framedOne n i used b ≡ Needs (4 + size b - length b)
       unfolding framedOne
       one-part l = simp (le-ltb (length b) 4 h, e, lt-ltb (length b) (4 + size b) l)
@@ -82,59 +84,65 @@ module _ (n i used : ℕ) (b : List ℕ) where
       one-whole l = simp (le-ltb (length b) 4 h, e, le-ltb (length b) (4 + size b) l)
 
 -- the same in the words of the code
-pub found-short : (n i used at : ℕ) (b : List ℕ) → length b - at < 4 → Needs (4 - (length b - at)) ≡ framedOne n i used (drop at b)
+pub found-short : (n i used at : ℕ) (b : List ℕ) → length b - at < 4
+    → Needs (4 - (length b - at)) ≡ framedOne n i used (drop at b)
 found-short n i used at b h =
     let l : length (drop at b) ≡ length b - at = length-drop at b in
     ap (λ (k : ℕ). Needs (4 - k)) (sym l) ∙ sym (one-short n i used (drop at b) (omega (arith, l)))
 
 module _ (n i used at s : ℕ) (al : Bool) (b : List ℕ)
-    (es : s ≡ size (drop at b)) (ea : al ≡ allowed n i s) (u : used ≤ most) (h : 4 ≤ length b - at) where
+    (es : s ≡ size (drop at b)) (ea : al ≡ allowed n i s) (u : used ≤ mostArgumentBytes) (h : 4 ≤ length b - at) where
   left : length (drop at b) ≡ length b - at
   left = length-drop at b
 
-  test : (not al || ltb (most - used) s) ≡ (not (allowed n i (size (drop at b))) || ltb most (used + size (drop at b)))
+  test :
+      (not al || ltb (mostArgumentBytes - used) s)
+      ≡ (not (allowed n i (size (drop at b))) || ltb mostArgumentBytes (used + size (drop at b)))
   test =
-      ap (λ (t : Bool). not t || ltb (most - used) s) ea
-      ∙ ap (λ (t : Bool). not (allowed n i s) || t) (over-left most used s u)
-      ∙ ap (λ (k : ℕ). not (allowed n i k) || ltb most (used + k)) es
+      ap (λ (t : Bool). not t || ltb (mostArgumentBytes - used) s) ea
+      ∙ ap (λ (t : Bool). not (allowed n i s) || t) (over-left mostArgumentBytes used s u)
+      ∙ ap (λ (k : ℕ). not (allowed n i k) || ltb mostArgumentBytes (used + k)) es
 
-  pub found-cut : (not al || ltb (most - used) s) ≡ true → Cut ≡ framedOne n i used (drop at b)
+  pub found-cut : (not al || ltb (mostArgumentBytes - used) s) ≡ true → Cut ≡ framedOne n i used (drop at b)
   found-cut e = sym (one-cut n i used (drop at b) (omega (arith, left)) (sym test ∙ e))
 
-  pub found-part : (not al || ltb (most - used) s) ≡ false → length b - at - 4 < s
+  pub found-part : (not al || ltb (mostArgumentBytes - used) s) ≡ false → length b - at - 4 < s
       → Needs (s - (length b - at - 4)) ≡ framedOne n i used (drop at b)
   found-part e l =
       let k : s - (length b - at - 4) ≡ 4 + size (drop at b) - length (drop at b) = omega (arith, left, es) in
       ap Needs k ∙ sym (one-part n i used (drop at b) (omega (arith, left)) (sym test ∙ e) (omega (arith, left, es)))
 
-  pub found-whole : (not al || ltb (most - used) s) ≡ false → s ≤ length b - at - 4 → Whole ≡ framedOne n i used (drop at b)
+  pub found-whole : (not al || ltb (mostArgumentBytes - used) s) ≡ false → s ≤ length b - at - 4
+      → Whole ≡ framedOne n i used (drop at b)
   found-whole e l = sym (one-whole n i used (drop at b) (omega (arith, left)) (sym test ∙ e) (omega (arith, left, es)))
 
 -- what a whole argument says
 pub record IsWhole (n i used : ℕ) (b : List ℕ) : Type 0 where
   pub there : 4 + size b ≤ length b
   pub allows : allowed n i (size b) ≡ true
-  pub few : used + size b ≤ most
+  pub few : used + size b ≤ mostArgumentBytes
 
 -- one argument is too short for its length, cut, too short for what its length says, or whole
 pub one-cases : {P : Type 0} (n i used : ℕ) (b : List ℕ)
     → (length b < 4 → framedOne n i used b ≡ Needs (4 - length b) → P)
     → (framedOne n i used b ≡ Cut → P)
-    → (length b < 4 + size b → used + size b ≤ most → framedOne n i used b ≡ Needs (4 + size b - length b) → P)
+    → (length b < 4 + size b → used + size b ≤ mostArgumentBytes
+    → framedOne n i used b ≡ Needs (4 + size b - length b) → P)
     → (IsWhole n i used b → framedOne n i used b ≡ Whole → P)
     → P
 one-cases n i used b f g h k =
     cases (ltb (length b) 4)
     (λ e. let s = ltb-true (length b) 4 e in f s (one-short n i used b s))
     (λ e. let l = ltb-false (length b) 4 e in
-    cases (not (allowed n i (size b)) || ltb most (used + size b))
+    cases (not (allowed n i (size b)) || ltb mostArgumentBytes (used + size b))
     (λ t. g (one-cut n i used b l t))
-    (λ t. let two = neither (not (allowed n i (size b))) (ltb most (used + size b)) t in
-    let few = ltb-false most (used + size b) (two .1) in
+    (λ t. let two = neither (not (allowed n i (size b))) (ltb mostArgumentBytes (used + size b)) t in
+    let few = ltb-false mostArgumentBytes (used + size b) (two .1) in
     cases (ltb (length b) (4 + size b))
     (λ q. let s = ltb-true (length b) (4 + size b) q in h s few (one-part n i used b l t s))
     (λ q. let s = ltb-false (length b) (4 + size b) q in
-    k (record { there = s; allows = not-not (allowed n i (size b)) (two .0); few = few }) (one-whole n i used b l t s))))
+    k (record { there = s; allows = not-not (allowed n i (size b)) (two .0); few = few })
+    (one-whole n i used b l t s))))
 
 pub one-is-whole : (n i used : ℕ) (b : List ℕ) → framedOne n i used b ≡ Whole → IsWhole n i used b
 one-is-whole n i used b w =
@@ -157,7 +165,7 @@ whole t f e n = sym e ∙ not-not t n
 -- the arguments before i are whole, and have `used` bytes together
 pub record Walked (b : List ℕ) (n m at used i : ℕ) : Type 0 where
   pub inside : at ≤ length b
-  pub few : used ≤ most
+  pub few : used ≤ mostArgumentBytes
   pub counted : i ≤ m
   pub same : framedFrom n 0 m 0 (drop 1 b) ≡ framedFrom n i (m - i) used (drop at b)
 
@@ -171,23 +179,24 @@ walked-none b n m h =
       same = ap (λ (k : ℕ). framedFrom n 0 k 0 (drop 1 b)) e;
     }
 
-pub walked-all : (b : List ℕ) (n m at used i : ℕ) → Walked b n m at used i → m ≤ i → Whole ≡ framedFrom n 0 m 0 (drop 1 b)
+pub walked-all : (b : List ℕ) (n m at used i : ℕ) → Walked b n m at used i → m ≤ i
+    → Whole ≡ framedFrom n 0 m 0 (drop 1 b)
 unfolding framedFrom
 walked-all b n m at used i w h =
     let e : m - i ≡ 0 = omega arith in
     sym (w .same ∙ ap (λ (k : ℕ). framedFrom n i k used (drop at b)) e)
 
 pub from-suc : (n i k used : ℕ) (b : List ℕ)
-    → framedFrom n i (suc k) used b ≡ andThen (framedOne n i used b) (framedFrom n (suc i) k (used + size b) (behind b))
+    → framedFrom n i (suc k) used b ≡ ifWhole (framedOne n i used b) (framedFrom n (suc i) k (used + size b) (behind b))
 unfolding framedFrom
 from-suc n i k used b = refl
 
-stays : (one f : Framed) → isWhole one ≡ false → one ≡ andThen one f
+stays : (one f : Framed) → isWhole one ≡ false → one ≡ ifWhole one f
 stays (Needs k) f e = refl
 stays Whole f e = clash true refl e
 stays Cut f e = refl
 
-goes-on : (one f : Framed) → isWhole one ≡ true → andThen one f ≡ f
+goes-on : (one f : Framed) → isWhole one ≡ true → ifWhole one f ≡ f
 goes-on (Needs k) f e = clash false e refl
 goes-on Whole f e = refl
 goes-on Cut f e = clash false e refl
@@ -197,21 +206,22 @@ module _ (b : List ℕ) (n m at used i : ℕ) (one : Framed)
   abbrev next : Framed
   next = framedFrom n (suc i) (m - suc i) (used + size (drop at b)) (behind (drop at b))
 
-  walked-on : framedFrom n 0 m 0 (drop 1 b) ≡ andThen one next
+  walked-on : framedFrom n 0 m 0 (drop 1 b) ≡ ifWhole one next
   walked-on =
       let k : m - i ≡ suc (m - suc i) = omega arith in
       w .same
       ∙ ap (λ (j : ℕ). framedFrom n i j used (drop at b)) k
       ∙ from-suc n i (m - suc i) used (drop at b)
-      ∙ ap (λ (f : Framed). andThen f next) (sym e)
+      ∙ ap (λ (f : Framed). ifWhole f next) (sym e)
 
-  pub walked-few : (s : ℕ) → isWhole one ≡ true → s ≡ size (drop at b) → used + s ≤ most
+  pub walked-few : (s : ℕ) → isWhole one ≡ true → s ≡ size (drop at b) → used + s ≤ mostArgumentBytes
   walked-few s t es = omega (arith, one-is-whole n i used (drop at b) (sym e ∙ is-whole one t) .few, es)
 
   pub walked-stop : isWhole one ≡ false → one ≡ framedFrom n 0 m 0 (drop 1 b)
   walked-stop t = stays one next t ∙ sym walked-on
 
-  pub walked-more : (s at′ : ℕ) → isWhole one ≡ true → s ≡ size (drop at b) → at′ ≤ length b → drop at′ b ≡ behind (drop at b)
+  pub walked-more : (s at′ : ℕ) → isWhole one ≡ true → s ≡ size (drop at b) → at′ ≤ length b
+      → drop at′ b ≡ behind (drop at b)
       → Walked b n m at′ (used + s) (i + 1)
   walked-more s at′ t es l d =
       let j : suc i ≡ i + 1 = omega arith in
@@ -242,7 +252,8 @@ skipped-none b i h =
     let e : i ≡ i - 0 = omega arith in
     record { inside = h; counted = omega arith; same = ap (λ (k : ℕ). skipped k (drop 1 b)) e }
 
-pub skipped-more : (b : List ℕ) (i at j at′ : ℕ) → Skipped b i at j → j < i → at′ ≤ length b → drop at′ b ≡ behind (drop at b) → Skipped b i at′ (j + 1)
+pub skipped-more : (b : List ℕ) (i at j at′ : ℕ) → Skipped b i at j → j < i → at′ ≤ length b
+    → drop at′ b ≡ behind (drop at b) → Skipped b i at′ (j + 1)
 unfolding skipped
 skipped-more b i at j at′ s h l d =
     let k : i - j ≡ suc (i - (j + 1)) = omega arith in
@@ -253,13 +264,15 @@ skipped-more b i at j at′ s h l d =
     }
 
 -- it is there, or the bytes end before
-pub skipped-there : (b : List ℕ) (i at j : ℕ) → Skipped b i at j → i ≤ j → (at ≤ length b) × (skipped i (drop 1 b) ≡ drop at b)
+pub skipped-there : (b : List ℕ) (i at j : ℕ) → Skipped b i at j → i ≤ j
+    → (at ≤ length b) × (skipped i (drop 1 b) ≡ drop at b)
 unfolding skipped
 skipped-there b i at j s h =
     let z : i - j ≡ 0 = omega arith in
     (s .inside, s .same ∙ ap (λ (k : ℕ). skipped k (drop at b)) z)
 
-pub skipped-end : (b : List ℕ) (i at j : ℕ) → Skipped b i at j → length b ≤ at → (at ≤ length b) × (skipped i (drop 1 b) ≡ drop at b)
+pub skipped-end : (b : List ℕ) (i at j : ℕ) → Skipped b i at j → length b ≤ at
+    → (at ≤ length b) × (skipped i (drop 1 b) ≡ drop at b)
 skipped-end b i at j s h =
     let n : drop at b ≡ [] = drop-of-length-le b {i = at} h in
     (s .inside, s .same ∙ ap (skipped (i - j)) n ∙ skipped-nil (i - j) ∙ sym n)
@@ -275,17 +288,18 @@ unfolding framed
 framed-none [] h = refl
 framed-none (x ∷ b) h = absurd (omega (arith, h))
 
-pub framed-unlisted : (b : List ℕ) (m : ℕ) → length b ≢ 0 → m ≡ count (getD b 0 0) → m ≡ 0 → Cut ≡ framed b
+pub framed-unlisted : (b : List ℕ) (m : ℕ) → length b ≢ 0 → m ≡ entry (getD b 0 0) 0 → m ≡ any → Cut ≡ framed b
 unfolding framed
 framed-unlisted [] m h e z = absurd (h refl)
-framed-unlisted (n ∷ b) m h e z = sym (simp (eq-eqb (count n) 0 (sym e ∙ z)))
+framed-unlisted (n ∷ b) m h e z = sym (simp (unlisted-entry n (sym e ∙ z)))
 
-pub framed-listed : (b : List ℕ) (m : ℕ) (r : Framed) → length b ≢ 0 → m ≡ count (getD b 0 0) → m ≢ 0
+pub framed-listed : (b : List ℕ) (m : ℕ) (r : Framed) → length b ≢ 0 → m ≡ entry (getD b 0 0) 0 → m ≢ any
     → r ≡ framedFrom (getD b 0 0) 0 m 0 (drop 1 b) → r ≡ framed b
 unfolding framed
 framed-listed [] m r h e z f = absurd (h refl)
 framed-listed (n ∷ b) m r h e z f =
-    f ∙ ap (λ (k : ℕ). framedFrom n 0 k 0 b) e ∙ sym (simp (ne-eqb (count n) 0 (λ q. z (e ∙ q))))
+    let t = listed-entry n (λ q. z (e ∙ q)) in
+    f ∙ ap (λ (k : ℕ). framedFrom n 0 k 0 b) (e ∙ t .1) ∙ sym (simp (t .0))
 
 -- ---- an argument
 
@@ -301,7 +315,8 @@ fit : (t room : List ℕ) (s f : ℕ) → s ≤ length t → f ≡ min s (length
 fit t room s f h e =
     cases (ltb s (length room))
     (λ l. let p : s ≡ f = omega (arith, ltb-true s (length room) l) in (
-      take-all (length room) (take s t) (rw length-take (omega (arith, ltb-true s (length room) l))) ∙ ap (λ (k : ℕ). take k t) p,
+      take-all (length room) (take s t) (rw length-take (omega (arith, ltb-true s (length room) l)))
+          ∙ ap (λ (k : ℕ). take k t) p,
       ap (λ (k : ℕ). drop k room) p,
     ))
     (λ l. let q : length room ≤ s = ltb-false s (length room) l in
@@ -310,12 +325,11 @@ fit t room s f h e =
       drop-of-length-le room {i = s} q ∙ sym (drop-of-length-le room {i = f} (omega arith)),
     ))
 
-module _ (b : List ℕ) (i : ℕ) (room room′ : List ℕ) (at k s size′ f r : ℕ)
+module _ (b : List ℕ) (i at k s size′ : ℕ)
     (place : (at ≤ length b) × (skipped i (drop 1 b) ≡ drop at b))
     (ek : k ≡ min (length b - at) 4)
     (es : s ≡ size (drop at b))
-    (ez : size′ ≡ min s (length b - (at + k)))
-    (ef : f ≡ min size′ (length room)) where
+    (ez : size′ ≡ min s (length b - (at + k))) where
   abbrev t : List ℕ
   t = drop (at + k) b
 
@@ -336,22 +350,29 @@ module _ (b : List ℕ) (i : ℕ) (room room′ : List ℕ) (at k s size′ f r 
       ∙ ap (λ (n : ℕ). take n t) (sym es)
       ∙ cases (ltb s (length t))
       (λ l. let q : s ≡ size′ = omega (arith, length-t, ltb-true s (length t) l) in ap (λ (n : ℕ). take n t) q)
-      (λ l. take-all s t (ltb-false s (length t) l) ∙ sym (take-all size′ t (omega (arith, length-t, ltb-false s (length t) l))))
+      (λ l. let q = ltb-false s (length t) l in take-all s t q ∙ sym (take-all size′ t (omega (arith, length-t, q))))
 
-  pub copied : (slice : List ℕ) → slice ≡ take (at + k + f - (at + k)) t → r ≡ length slice
-      → room′ ≡ take (length slice) slice ++ drop (length slice) room → Copies b i room room′ r
-  copied slice e er eo =
-      let ff : at + k + f - (at + k) ≡ f = omega arith in
-      let inside : size′ ≤ length t = omega (arith, length-t) in
-      let cut = fit t room size′ f inside ef in
-      let sl : slice ≡ take f t = e ∙ ap (λ (n : ℕ). take n t) ff in
-      let ls : length slice ≡ f = ap length sl ∙ length-first f size′ t (min-first f size′ (length room) ef) inside in
-      let la : length (argument b i) ≡ size′ = ap length is-argument ∙ length-take-le size′ t inside in
-      let taken : take (length room) (argument b i) ≡ slice = ap (take (length room)) is-argument ∙ cut .0 ∙ sym sl in
-      record {
-        answered = er ∙ ap length (sym taken);
-        room-left = eo
-            ∙ ap (λ (x : List ℕ). x ++ drop (length slice) room) (take-length slice ∙ sym taken)
-            ∙ ap (λ (n : ℕ). take (length room) (argument b i) ++ drop n room) ls
-            ∙ ap (λ (x : List ℕ). take (length room) (argument b i) ++ x) (sym (cut .1) ∙ ap (λ (n : ℕ). drop n room) (sym la));
-      }
+  pub stands : take (at + k + size′ - (at + k)) t ≡ argument b i
+  stands = let q : at + k + size′ - (at + k) ≡ size′ = omega arith in ap (λ (n : ℕ). take n t) q ∙ sym is-argument
+
+-- what is copied of it
+pub copied : (b : List ℕ) (i : ℕ) (room room′ given slice : List ℕ) (f r : ℕ)
+    → given ≡ argument b i → f ≡ min (length given) (length room) → slice ≡ take (f - 0) (drop 0 given)
+    → r ≡ length slice
+    → room′ ≡ take (length slice) slice ++ drop (length slice) room → Copies b i room room′ r
+copied b i room room′ given slice f r g ef e er eo =
+    let z : f - 0 ≡ f = omega arith in
+    let cut = fit given room (length given) f (omega arith) ef in
+    let sl : slice ≡ take f given = e ∙ ap (λ (n : ℕ). take n given) z in
+    let ls : length slice ≡ f
+    = ap length sl ∙ length-first f (length given) given (min-first f (length given) (length room) ef) (omega arith) in
+    let taken : take (length room) (argument b i) ≡ slice
+    = ap (take (length room)) (sym g ∙ sym (take-length given)) ∙ cut .0 ∙ sym sl in
+    record {
+      answered = er ∙ ap length (sym taken);
+      room-left = eo
+          ∙ ap (λ (x : List ℕ). x ++ drop (length slice) room) (take-length slice ∙ sym taken)
+          ∙ ap (λ (n : ℕ). take (length room) (argument b i) ++ drop n room) ls
+          ∙ ap (λ (x : List ℕ). take (length room) (argument b i) ++ x)
+          (sym (cut .1) ∙ ap (λ (x : List ℕ). drop (length x) room) g);
+    }

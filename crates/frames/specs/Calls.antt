@@ -1,26 +1,67 @@
--- The fourteen calls of docs/CALLS.md: how many arguments each has, and the lengths that they may have. Assumes nothing.
-use mathlib.Core.Bool.{Bool, true, _&&_}
+-- The calls of docs/CALLS.md: their numbers, and how many bytes each of their arguments has. Assumes nothing.
+use mathlib.Core.Bool.{Bool, true, false, _||_}
 use mathlib.Core.List.{List, [], _∷_}
-use Prim.Native.Nat.{ℕ}
-use lib.Dec.{eqb, leb}
-use lib.ListN.{getD}
-use Rattle.notions.specs.Choice.{pick}
+use mathlib.Core.Option.{Option, none, some}
+use Prim.Native.Nat.{ℕ, _+_}
+use lib.Dec.{eqb}
+use lib.ListN.{length, getD}
 
 -- one call's arguments together have at most so many bytes
-abbrev pub most : ℕ
-most = 262144
+abbrev pub mostArgumentBytes : ℕ
+mostArgumentBytes = 262144
 
--- how many arguments calls 1 to 14 have, in order; there is no call 0
-abbrev pub counts : List ℕ
-counts = 0 ∷ 1 ∷ 5 ∷ 4 ∷ 2 ∷ 2 ∷ 4 ∷ 1 ∷ 2 ∷ 2 ∷ 1 ∷ 2 ∷ 1 ∷ 2 ∷ 3 ∷ []
+-- stands for any length: it is longer than an argument can be
+abbrev pub any : ℕ
+any = mostArgumentBytes + 1
 
--- how many arguments the call with this number has, or 0 if none is listed
+-- the arguments of one length: a monitor, a state of the running hash, a place in a trace
+abbrev pub monitorBytes : ℕ
+monitorBytes = 3
+
+abbrev pub stateBytes : ℕ
+stateBytes = 104
+
+abbrev pub placeBytes : ℕ
+placeBytes = 8
+
+-- by their numbers: no call, or the length of each argument, in order
+abbrev pub calls : List (Option (List ℕ))
+calls =
+    none  -- 0: no call
+    ∷ some (any ∷ [])  -- 1: layout
+    ∷ some (any ∷ any ∷ any ∷ monitorBytes ∷ any ∷ [])  -- 2: memory, layout, step, monitor, room
+    ∷ some (any ∷ any ∷ any ∷ any ∷ [])  -- 3: memory, layout, trace, room
+    ∷ some (any ∷ any ∷ [])  -- 4: memory, layout
+    ∷ some (any ∷ any ∷ [])  -- 5: key, challenge
+    ∷ some (any ∷ any ∷ any ∷ any ∷ [])  -- 6: key, challenge, reply, region
+    ∷ some (any ∷ [])  -- 7: message
+    ∷ some (any ∷ any ∷ [])  -- 8: key, message
+    ∷ some (stateBytes ∷ any ∷ [])  -- 9: state, bytes
+    ∷ some (stateBytes ∷ [])  -- 10: state
+    ∷ some (stateBytes ∷ any ∷ [])  -- 11: state, bytes
+    ∷ some (stateBytes ∷ [])  -- 12: state
+    ∷ some (any ∷ placeBytes ∷ [])  -- 13: trace, place
+    ∷ some (any ∷ any ∷ any ∷ [])  -- 14: file, memory, room
+    ∷ []
+
+abbrev pub isCall : Option (List ℕ) → Bool
+isCall none = false
+isCall (some l) = true
+
+abbrev pub argumentsOf : Option (List ℕ) → List ℕ
+argumentsOf none = []
+argumentsOf (some l) = l
+
+-- whether a call has this number, and how many arguments it has
+unfoldable pub listed : ℕ → Bool
+listed n = isCall (getD calls n none)
+
 unfoldable pub count : ℕ → ℕ
-count n = getD counts n 0
+count n = length (argumentsOf (getD calls n none))
 
--- argument i of call n may have k bytes: a monitor has 3, a state 104, a place 8, and every other argument has any length
+-- argument i of call n may have k bytes
+abbrev pub lengthAllows : ℕ → ℕ → Bool
+lengthAllows l k = eqb l any || eqb k l
+
 unfoldable pub allowed : ℕ → ℕ → ℕ → Bool
-allowed n i k =
-    pick (eqb n 2 && eqb i 3) (eqb k 3)
-    (pick (leb 9 n && leb n 12 && eqb i 0) (eqb k 104)
-    (pick (eqb n 13 && eqb i 1) (eqb k 8) true))
+allowed n i k = lengthAllows (getD (argumentsOf (getD calls n none)) i any) k

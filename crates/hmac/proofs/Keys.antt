@@ -8,10 +8,10 @@ use borrow.Author.Tests.{lt-ltb, le-ltb, ne-eqb, eqb-true}
 use lib.Dec.{eqb}
 use lib.ListN.{length, replicate}
 use Rattle.notions.proofs.Tests.{cases}
-use Rattle.sha256.specs.Hash.{sha256}
+use Rattle.sha256_digest.specs.Hash.{sha256}
 use Rattle.sha256.specs.Running.{blockOf}
 use Rattle.sha256.proofs.Running.{block-short}
-use Rattle.sha256.proofs.Laws.{length-sha256}
+use Rattle.sha256_digest.proofs.Laws.{length-sha256}
 use Rattle.hmac.specs.Hmac.{k0}
 
 -- a key over a block's length

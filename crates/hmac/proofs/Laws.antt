@@ -7,9 +7,10 @@ use native.Mathlib.Omega.{arith}
 use borrow.Author.Tests.{le-ltb}
 use lib.ListN.{length}
 use Rattle.notions.specs.Bytes.{Bytes}
-use Rattle.sha256.specs.declared.Digest.{Digest}
-use Rattle.sha256.proofs.Laws.{length-sha256, gives-bytes}
-use Rattle.sha256.proofs.Bytes.{bytes-sha256}
+use Rattle.sha256.specs.declared.Bytes32.{Bytes32}
+use Rattle.sha256_digest.proofs.Laws.{length-sha256}
+use Rattle.sha256.proofs.Laws.{gives-bytes}
+use Rattle.sha256_digest.proofs.Bytes.{bytes-sha256}
 use Rattle.hmac.specs.Hmac.{hmac}
 use Rattle.hmac.specs.Promises.{most, long, Macs}
 
@@ -26,5 +27,5 @@ pub hmac-short : (k m : List ℕ) → long (hmac k m) ≡ false
 hmac-short k m = le-ltb most (length (hmac k m)) (omega (arith, length-hmac k m))
 
 -- what `mac` answers where nothing is refused
-pub mac-bytes : (k m : List ℕ) (r : Digest) → long k ≡ false → long m ≡ false → Macs k m r → r .bytes ≡ hmac k m
+pub mac-bytes : (k m : List ℕ) (r : Bytes32) → long k ≡ false → long m ≡ false → Macs k m r → r .bytes ≡ hmac k m
 mac-bytes k m r p q e = gives-bytes e (simp (p, q))

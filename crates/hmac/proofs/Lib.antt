@@ -1,4 +1,4 @@
 pub mod Keys
 pub mod Masks
-pub mod Behind
+pub mod Joined
 pub mod Laws

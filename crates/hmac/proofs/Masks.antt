@@ -36,7 +36,14 @@ mask-more x l b i h e =
     let d : drop i l ≡ getD l i 0 ∷ drop (suc i) l = drop-cons l i 0 h in
     let t : take (suc i) l ≡ take i l ++ (getD l i 0 ∷ []) = take-suc l i 0 h in
     rw add-one
-    (cc (getD-at p (getD l i 0) (drop (suc i) l) 0 i f, set-at p (getD l i 0) (drop (suc i) l) a i f, append-snoc p a (drop (suc i) l), xored-append x (take i l) (getD l i 0 ∷ []), xored-one x (getD l i 0)))
+    (cc (
+      getD-at p (getD l i 0) (drop (suc i) l) 0 i f,
+      set-at p (getD l i 0) (drop (suc i) l) a i f,
+      append-snoc p a
+          (drop (suc i) l),
+      xored-append x (take i l) (getD l i 0 ∷ []),
+      xored-one x (getD l i 0),
+    ))
 
 pub mask-whole : (x : ℕ) (l b : List ℕ) (i : ℕ) → i ≡ length l → b ≡ xored x (take i l) ++ drop i l → b ≡ xored x l
 mask-whole x l b i ei e = cc (take-length l, drop-length l, append-nil (xored x l))

@@ -4,7 +4,7 @@ use mathlib.Core.List.{List}
 use Prim.Native.Nat.{ℕ}
 use lib.Dec.{ltb}
 use lib.ListN.{length}
-use Rattle.sha256.specs.declared.Digest.{Digest}
+use Rattle.sha256.specs.declared.Bytes32.{Bytes32}
 use Rattle.sha256.specs.Promises.{Gives}
 use Rattle.hmac.specs.Hmac.{hmac}
 
@@ -17,5 +17,5 @@ abbrev pub long : List ℕ → Bool
 long l = ltb most (length l)
 
 -- `mac`: refused exactly if the key or the message is too long
-abbrev pub Macs : List ℕ → List ℕ → Digest → Type 0
+abbrev pub Macs : List ℕ → List ℕ → Bytes32 → Type 0
 Macs k m r = Gives (long k || long m) (hmac k m) r

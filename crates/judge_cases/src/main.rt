@@ -1,33 +1,27 @@
-// Judges the run files on standard input, one after the other, and prints of each what the program `judge` prints. A file stands behind its
-// length, a 32-bit little-endian number of at most 49,153, which is one byte more than a file may have. Memory and room are kept from file to
-// file, so that it would show if one saw what another left there. tests/second makes the files and works the same text out by itself.
+// Judges the run files on standard input, one after the other, and prints of each what the program `judge` prints. A
+// file stands behind its length, a 32-bit little-endian number of at most 49,153. Memory and room are kept from file to
+// file, so that it would show if one saw what another left there. tests/second makes the files and works the same text
+// out by itself.
 use libc::STDIN_FILENO;
 use libc::STDOUT_FILENO;
-ghost use Prim.Native.Nat.{_<_, _≤_};
+ghost use Prim.Native.Nat.{_≤_};
 ghost use lib.ListN.{length};
 
-type Memory = [u8; layout::MEMORY];
+type Memory = [u8; layout::MEMORY_BYTES];
 
 type Room = [u8; traces::ANSWER * traces::MOST_STEPS];
 
-const MOST: usize = runfile::MOST + 1;
+// The bytes of a length, and the most bytes that it may name: one more than a file may have.
+const LENGTH_SIZE: usize = 4;
+
+const MOST_READ: usize = file_contents::LARGEST_FILE + 1;
 
 fn fill(memory: &mut Memory) {
     let mut a = 0;
-    while a < layout::MEMORY {
+    while a < layout::MEMORY_BYTES {
         memory[a] = ((7 * a + a / 256) % 256) as u8;
         a += 1;
     }
-}
-
-fn wide(x: u8) -> usize
-    ensures { λ r. ⌜ r < 256 ⌝ }
-{
-    x as usize
-}
-
-fn number(head: &[u8; 4]) -> usize {
-    wide(head[0]) + 256 * wide(head[1]) + 65536 * wide(head[2]) + 16777216 * wide(head[3])
 }
 
 fn print(file: &[u8], memory: &mut Memory, room: &mut Room) {
@@ -49,14 +43,14 @@ fn judge(file: &mut [u8], n: usize, memory: &mut Memory, room: &mut Room) -> boo
 
 // Judges the next file, and tells whether there was one.
 fn next(memory: &mut Memory, room: &mut Room) -> bool {
-    let mut head = [0u8; 4];
-    let mut file = [0u8; MOST];
-    let got = io::read_full(STDIN_FILENO, &mut head);
+    let mut length = [0u8; LENGTH_SIZE];
+    let mut file = [0u8; MOST_READ];
+    let got = io::read_full(STDIN_FILENO, &mut length);
     if got == 0 {
         return false;
     }
-    let n = number(&head);
-    if got == 4 && n <= MOST && judge(&mut file, n, memory, room) {
+    let n = octets::number(&length) as usize;
+    if got == LENGTH_SIZE && n <= MOST_READ && judge(&mut file, n, memory, room) {
         return true;
     }
     // The length is too great, or the input ends before the file does.
@@ -73,7 +67,7 @@ fn all(memory: &mut Memory, room: &mut Room) {
 }
 
 fn main() {
-    let mut memory = [0u8; layout::MEMORY];
+    let mut memory = [0u8; layout::MEMORY_BYTES];
     let mut room = [0u8; traces::ANSWER * traces::MOST_STEPS];
     fill(&mut memory);
     all(&mut memory, &mut room);

@@ -48,29 +48,37 @@ call-refused memory layout rest q e =
 pub call-numbers : (P : ℕ → Type 0) (memory layout : List ℕ) (rest : Answer)
     → ((n : ℕ) → memorySize ≤ n → n ≤ regionsShare → P n) → Refuses P rest → Refuses P (callCheck memory layout rest)
 call-numbers P memory layout rest h f =
-    refuses-test P (not (eqb (length memory) memoryBytes)) memorySize 0 (andThen (layoutCheck layout) rest) (h memorySize (omega arith) (omega arith))
-    (refuses-then P (layoutCheck layout) rest (λ r e. let p = layout-numbers layout r e in h (r .number) (omega (arith, p .0)) (p .1)) f)
+    refuses-test P (not (eqb (length memory) memoryBytes)) memorySize 0 (andThen (layoutCheck layout) rest)
+    (h memorySize (omega arith) (omega arith))
+    (refuses-then P (layoutCheck layout) rest
+    (λ r e. let p = layout-numbers layout r e in h (r .number) (omega (arith, p .0)) (p .1))
+    f)
 
 -- `admit`, on plain variables
 module _ (memory layout : List ℕ) (rest : Answer) (long : length memory ≡ memoryBytes) where
-  pub admit-good : (l : Layout) → Checks layout (checked.Good l) → rest ≡ Done → Admits memory layout rest (checked.Good l)
+  pub admit-good : (l : Layout) → Checks layout (checked.Good l) → rest ≡ Done
+      → Admits memory layout rest (checked.Good l)
   admit-good l p e =
       let g = told-good (layoutCheck layout) (layoutOf layout) l (p .answered) in
-      record { answered = simp (eq-eqb (length memory) memoryBytes long, g .0, e) (ap (λ (k : Layout). checkedRow (checked.Good k)) (g .1)) }
+      let row = ap (λ (k : Layout). checkedRow (checked.Good k)) (g .1) in
+      record { answered = simp (eq-eqb (length memory) memoryBytes long, g .0, e) row }
 
-  pub admit-rest : (l : Layout) (r : Refusal) → Checks layout (checked.Good l) → rest ≡ Refused r → Admits memory layout rest (checked.Refused r)
+  pub admit-rest : (l : Layout) (r : Refusal) → Checks layout (checked.Good l) → rest ≡ Refused r
+      → Admits memory layout rest (checked.Refused r)
   admit-rest l r p e =
-      record { answered = simp (eq-eqb (length memory) memoryBytes long, told-good (layoutCheck layout) (layoutOf layout) l (p .answered) .0, e) }
+      let g = told-good (layoutCheck layout) (layoutOf layout) l (p .answered) in
+      record { answered = simp (eq-eqb (length memory) memoryBytes long, g .0, e) }
 
   pub admit-refused : (r : Refusal) → Checks layout (checked.Refused r) → Admits memory layout rest (checked.Refused r)
   admit-refused r p =
-      record { answered = simp (eq-eqb (length memory) memoryBytes long, told-refused (layoutCheck layout) (layoutOf layout) r (p .answered)) }
+      let t = told-refused (layoutCheck layout) (layoutOf layout) r (p .answered) in
+      record { answered = simp (eq-eqb (length memory) memoryBytes long, t) }
 
 -- what `admit` has answered
 pub admitted-good : (memory layout : List ℕ) (rest : Answer) (l : Layout) → Admits memory layout rest (checked.Good l)
     → (callCheck memory layout rest ≡ Done) × (l ≡ layoutOf layout)
 admitted-good memory layout rest l p = told-good (callCheck memory layout rest) (layoutOf layout) l (p .answered)
 
-pub admitted-refused : (memory layout : List ℕ) (rest : Answer) (r : Refusal) → Admits memory layout rest (checked.Refused r)
-    → callCheck memory layout rest ≡ Refused r
+pub admitted-refused : (memory layout : List ℕ) (rest : Answer) (r : Refusal)
+    → Admits memory layout rest (checked.Refused r) → callCheck memory layout rest ≡ Refused r
 admitted-refused memory layout rest r p = told-refused (callCheck memory layout rest) (layoutOf layout) r (p .answered)

@@ -23,6 +23,7 @@ use Rattle.layout.specs.declared.Checked.the-variants as checked
 use Rattle.layout.specs.Regions.{within, reversed, size, shares}
 use Rattle.layout.specs.Layouts.{CR, KR, MR, CTR, region, layoutOf, wrongSize, mayShare, collide, layoutCheck}
 use Rattle.layout.specs.Layouts.{firstReversed, firstWrongSize, firstCollision}
+use Rattle.layout.specs.Layouts.{layoutBytes, regions, keyBytes, counterBytes, leastMailbox}
 use Rattle.layout.specs.Promises.{layoutValues, checkedRow, Checks}
 use Rattle.layout.specs.Settled.{checked-row-settled}
 use Rattle.layout.specs.Good.{Good}
@@ -49,11 +50,15 @@ from-refused Done l r e = absurd (let z : _≡_ {A = ℕ} 0 1 = cc in omega arit
 from-refused (Refused s) l r e = cc
 
 -- the same by the answer's two forms, whatever was checked
-pub told-good : (a : Answer) (l m : Layout) → checkedRow (checked.Good m) ≡ told a (layoutValues l) → (a ≡ Done) × (m ≡ l)
-told-good a l m e = from-good a l m (checked-row-settled (checked.Good m) (checkedAs a l) (e ∙ sym (row-checkedAs a l)))
+pub told-good : (a : Answer) (l m : Layout) → checkedRow (checked.Good m) ≡ told a (layoutValues l)
+    → (a ≡ Done) × (m ≡ l)
+told-good a l m e =
+    from-good a l m (checked-row-settled (checked.Good m) (checkedAs a l) (e ∙ sym (row-checkedAs a l)))
 
-pub told-refused : (a : Answer) (l : Layout) (r : Refusal) → checkedRow (checked.Refused r) ≡ told a (layoutValues l) → a ≡ Refused r
-told-refused a l r e = from-refused a l r (checked-row-settled (checked.Refused r) (checkedAs a l) (e ∙ sym (row-checkedAs a l)))
+pub told-refused : (a : Answer) (l : Layout) (r : Refusal) → checkedRow (checked.Refused r) ≡ told a (layoutValues l)
+    → a ≡ Refused r
+told-refused a l r e =
+    from-refused a l r (checked-row-settled (checked.Refused r) (checkedAs a l) (e ∙ sym (row-checkedAs a l)))
 
 -- ---- regions
 
@@ -87,7 +92,8 @@ shares-exactly a b u v = (
       let m = ltb-false (a .hi) (a .lo) u in
       let n = ltb-false (b .hi) (b .lo) v in
       cases (ltb (a .lo) (b .lo))
-      (λ t. (b .lo, ends-within a (b .lo) (omega (arith, ltb-true (a .lo) (b .lo) t)) q, ends-within b (b .lo) (omega arith) n))
+      (λ t. let l = ltb-true (a .lo) (b .lo) t in
+      (b .lo, ends-within a (b .lo) (omega arith) q, ends-within b (b .lo) (omega arith) n))
       (λ t. (a .lo, ends-within a (a .lo) (omega arith) m, ends-within b (a .lo) (ltb-false (a .lo) (b .lo) t) p)),
   λ s. shares-at a b (s .0) (s .1) (s .2),
 )
@@ -96,11 +102,12 @@ shares-exactly a b u v = (
 
 -- the tests of the check, each by the region's number
 record Passes (b : List ℕ) : Type 0 where
-  long : eqb (length b) 24 ≡ true
-  ordered : (k : ℕ) → k < 6 → reversed (region b k) ≡ false
-  sized : (k : ℕ) → k < 6 → wrongSize k (region b k) ≡ false
+  long : eqb (length b) layoutBytes ≡ true
+  ordered : (k : ℕ) → k < regions → reversed (region b k) ≡ false
+  sized : (k : ℕ) → k < regions → wrongSize k (region b k) ≡ false
   outside : within (region b CR) 0 ≡ false
-  apart : (n : ℕ) → n < 36 → (ltb (n / 6) (n % 6) && collide b (n / 6) (n % 6)) ≡ false
+  apart : (n : ℕ) → n < regions * regions
+      → (ltb (n / regions) (n % regions) && collide b (n / regions) (n % regions)) ≡ false
 
 done-passes : (b : List ℕ) → layoutCheck b ≡ Done → Passes b
 unfolding layoutCheck
@@ -127,20 +134,22 @@ pub done-good : (b : List ℕ) → layoutCheck b ≡ Done → Good b
 done-good b e =
     let p = done-passes b e in
     record {
-      long = eqb-true (length b) 24 (p .long);
+      long = eqb-true (length b) layoutBytes (p .long);
       ordered = λ k h. ltb-false (region b k .hi) (region b k .lo) (p .ordered k h);
-      key = eqb-true (size (region b KR)) 64 (not-false _ (neither _ _ (neither _ _ (p .sized KR (omega arith)) .0) .0));
-      mailbox = ltb-false (size (region b MR)) 96 (neither _ _ (p .sized MR (omega arith)) .0);
-      counter = eqb-true (size (region b CTR)) 32 (not-false _ (p .sized CTR (omega arith)));
+      key =
+          let n = neither _ _ (p .sized KR (omega arith)) in
+          eqb-true (size (region b KR)) keyBytes (not-false _ (neither _ _ (n .0) .0));
+      mailbox = ltb-false (size (region b MR)) leastMailbox (neither _ _ (p .sized MR (omega arith)) .0);
+      counter = eqb-true (size (region b CTR)) counterBytes (not-false _ (p .sized CTR (omega arith)));
       zero = p .outside;
       apart = λ i j l h m a x y.
-          let en : (6 * i + j) / 6 ≡ i = omega arith in
-          let em : (6 * i + j) % 6 ≡ j = omega arith in
-          let c : (ltb i j && collide b i j) ≡ false = simp (en, em) at (p .apart (6 * i + j) (omega arith)) in
+          let en : (regions * i + j) / regions ≡ i = omega arith in
+          let em : (regions * i + j) % regions ≡ j = omega arith in
+          let c : (ltb i j && collide b i j) ≡ false = simp (en, em) at (p .apart (regions * i + j) (omega arith)) in
           true≢false (sym (shares-at (region b i) (region b j) a x y) ∙ (simp (lt-ltb i j l, m) at c));
     }
 
-forward : (b : List ℕ) → Good b → (k : ℕ) → k < 6 → reversed (region b k) ≡ false
+forward : (b : List ℕ) → Good b → (k : ℕ) → k < regions → reversed (region b k) ≡ false
 forward b g k h = le-ltb (region b k .hi) (region b k .lo) (g .ordered k h)
 
 -- a test of one region only
@@ -153,12 +162,13 @@ only-at k n p e =
 sizes : (b : List ℕ) → Good b → (k : ℕ) → wrongSize k (region b k) ≡ false
 sizes b g k =
     simp (
-      only-at k KR (λ j. not (eqb (size (region b j)) 64)) (simp (eq-eqb (size (region b KR)) 64 (g .key))),
-      only-at k MR (λ j. ltb (size (region b j)) 96) (le-ltb (size (region b MR)) 96 (g .mailbox)),
-      only-at k CTR (λ j. not (eqb (size (region b j)) 32)) (simp (eq-eqb (size (region b CTR)) 32 (g .counter))),
+      only-at k KR (λ j. not (eqb (size (region b j)) keyBytes)) (simp (eq-eqb (size (region b KR)) keyBytes (g .key))),
+      only-at k MR (λ j. ltb (size (region b j)) leastMailbox) (le-ltb (size (region b MR)) leastMailbox (g .mailbox)),
+      only-at k CTR (λ j. not (eqb (size (region b j)) counterBytes))
+          (simp (eq-eqb (size (region b CTR)) counterBytes (g .counter))),
     )
 
-no-collision : (b : List ℕ) → Good b → (i j : ℕ) → j < 6 → (ltb i j && collide b i j) ≡ true → ⊥
+no-collision : (b : List ℕ) → Good b → (i j : ℕ) → j < regions → (ltb i j && collide b i j) ≡ true → ⊥
 no-collision b g i j h e =
     let p = both (ltb i j) (collide b i j) e in
     let q = both (not (mayShare i j)) (shares (region b i) (region b j)) (p .1) in
@@ -169,11 +179,14 @@ no-collision b g i j h e =
 pub good-done : (b : List ℕ) → Good b → layoutCheck b ≡ Done
 good-done b g =
     passes-done b (record {
-      long = eq-eqb (length b) 24 (g .long);
+      long = eq-eqb (length b) layoutBytes (g .long);
       ordered = forward b g;
       sized = λ k h. sizes b g k;
       outside = g .zero;
-      apart = λ n h. untrue (ltb (n / 6) (n % 6) && collide b (n / 6) (n % 6)) (no-collision b g (n / 6) (n % 6) (omega arith));
+      apart = λ n h.
+          let i = n / regions in
+          let j = n % regions in
+          untrue (ltb i j && collide b i j) (no-collision b g i j (omega arith));
     })
 
 -- one that does not is refused with 2 to 6
@@ -181,11 +194,12 @@ pub layout-numbers : (b : List ℕ) → Refuses (λ n. (layoutSize ≤ n) × (n 
 unfolding layoutCheck
 layout-numbers b =
     let P : ℕ → Type 0 = λ n. (layoutSize ≤ n) × (n ≤ regionsShare) in
-    refuses-test P (not (eqb (length b) 24)) layoutSize 0 _ (omega arith, omega arith)
-    (refuses-test P (ltb (firstReversed b) 6) regionReversed (firstReversed b) _ (omega arith, omega arith)
-    (refuses-test P (ltb (firstWrongSize b) 6) regionSize (firstWrongSize b) _ (omega arith, omega arith)
+    refuses-test P (not (eqb (length b) layoutBytes)) layoutSize 0 _ (omega arith, omega arith)
+    (refuses-test P (ltb (firstReversed b) regions) regionReversed (firstReversed b) _ (omega arith, omega arith)
+    (refuses-test P (ltb (firstWrongSize b) regions) regionSize (firstWrongSize b) _ (omega arith, omega arith)
     (refuses-test P (within (region b CR) 0) zeroInCode 0 _ (omega arith, omega arith)
-    (refuses-test P (ltb (firstCollision b) 36) regionsShare 0 Done (omega arith, omega arith) (refuses-none P)))))
+    (refuses-test P (ltb (firstCollision b) (regions * regions)) regionsShare 0 Done (omega arith, omega arith)
+    (refuses-none P)))))
 
 -- ---- the regions of a layout that passes
 
@@ -194,7 +208,8 @@ unfolding layoutOf
 zero-outside b e = done-good b e .zero
 
 -- an address of one region is in no other, CR and AR apart
-pub elsewhere : {b : List ℕ} → Good b → (i j : ℕ) → i < 6 → j < 6 → (i ≡ j → ⊥) → mayShare i j ≡ false → mayShare j i ≡ false
+pub elsewhere : {b : List ℕ} → Good b → (i j : ℕ) → i < regions → j < regions → (i ≡ j → ⊥)
+    → mayShare i j ≡ false → mayShare j i ≡ false
     → (a : ℕ) → within (region b i) a ≡ true → within (region b j) a ≡ false
 elsewhere {b} g i j h k n m l a x =
     untrue (within (region b j) a)

@@ -12,30 +12,31 @@ use Rattle.refusal.specs.declared.Answer.the-variants.{Done}
 use Rattle.notions.proofs.Tests.{cases}
 use Rattle.layout.specs.declared.Layout.{Layout}
 use Rattle.layout.specs.Regions.{size}
+use Rattle.layout.specs.Layouts.{regions, regionBytes, keyBytes, counterBytes, leastMailbox}
 use Rattle.layout.specs.Layouts.{CR, KR, MR, CTR, AR, region, layoutOf, mayShare, layoutCheck}
 use Rattle.layout.specs.Calls.{memoryBytes}
 use Rattle.layout.specs.Good.{Good}
 use Rattle.layout.proofs.Laws.{done-good, ends-within}
 
 pub record Placed (l : Layout) : Type 0 where
-  pub key : size (l .kr) ≡ 64
-  pub key-in : l .kr .lo + 64 ≤ memoryBytes
-  pub mail-in : l .mr .lo + 96 ≤ memoryBytes
+  pub key : size (l .kr) ≡ keyBytes
+  pub key-in : l .kr .lo + keyBytes ≤ memoryBytes
+  pub mail-in : l .mr .lo + leastMailbox ≤ memoryBytes
   pub mail : l .mr .lo + 95 ≤ l .mr .hi
-  pub counter : size (l .ctr) ≡ 32
-  pub counter-in : l .ctr .lo + 32 ≤ memoryBytes
+  pub counter : size (l .ctr) ≡ counterBytes
+  pub counter-in : l .ctr .lo + counterBytes ≤ memoryBytes
   pub region : 1 ≤ size (l .ar)
   pub region-in : l .ar .lo + size (l .ar) ≤ memoryBytes
-  -- the first 96 bytes of MR are apart from those of CTR, of CR and of KR
-  pub apart : (l .mr .lo + 96 ≤ l .ctr .lo) ⊎ (l .ctr .lo + 32 ≤ l .mr .lo)
-  pub code-apart : (l .mr .lo + 96 ≤ l .cr .lo) ⊎ (l .cr .lo + size (l .cr) ≤ l .mr .lo)
-  pub key-apart : (l .mr .lo + 96 ≤ l .kr .lo) ⊎ (l .kr .lo + 64 ≤ l .mr .lo)
+  -- the fewest bytes of MR are apart from those of CTR, of CR and of KR
+  pub apart : (l .mr .lo + leastMailbox ≤ l .ctr .lo) ⊎ (l .ctr .lo + counterBytes ≤ l .mr .lo)
+  pub code-apart : (l .mr .lo + leastMailbox ≤ l .cr .lo) ⊎ (l .cr .lo + size (l .cr) ≤ l .mr .lo)
+  pub key-apart : (l .mr .lo + leastMailbox ≤ l .kr .lo) ⊎ (l .kr .lo + keyBytes ≤ l .mr .lo)
 
 -- a region of a layout of bytes ends in the memory
 region-ends : (b : List ℕ) → Bytes b → (k : ℕ) → region b k .hi < memoryBytes
 region-ends b h k =
-    let p = h (4 * k + 2) in
-    let q = h (4 * k + 3) in
+    let p = h (regionBytes * k + 2) in
+    let q = h (regionBytes * k + 3) in
     omega arith
 
 -- two runs of addresses with none in common: the one ends before the other begins
@@ -48,10 +49,12 @@ before-or-behind a b c d u v f =
     (λ r. f a (omega arith) u (ltb-false a c r) (ltb-false d a s)))))
 
 -- so it is with two regions of a good layout that may not share
-good-apart : (b : List ℕ) → Good b → (i j : ℕ) → i < j → j < 6 → mayShare i j ≡ false
+good-apart : (b : List ℕ) → Good b → (i j : ℕ) → i < j → j < regions → mayShare i j ≡ false
     → (region b i .hi < region b j .lo) ⊎ (region b j .hi < region b i .lo)
 good-apart b g i j h k m =
-    before-or-behind (region b i .lo) (region b i .hi) (region b j .lo) (region b j .hi) (g .ordered i (omega arith)) (g .ordered j k)
+    before-or-behind (region b i .lo) (region b i .hi) (region b j .lo) (region b j .hi)
+    (g .ordered i (omega arith))
+    (g .ordered j k)
     (λ x p q r t. g .apart i j h k m x (ends-within (region b i) x p q) (ends-within (region b j) x r t))
 
 good-placed : (b : List ℕ) → Bytes b → Good b → Placed (layoutOf b)
@@ -75,9 +78,12 @@ good-placed b h g =
       counter-in = omega arith;
       region = omega arith;
       region-in = omega arith;
-      apart = elim (good-apart b g MR CTR (omega arith) (omega arith) refl) [ inl p ↦ inl (omega arith) | inr p ↦ inr (omega arith) ];
-      code-apart = elim (good-apart b g CR MR (omega arith) (omega arith) refl) [ inl p ↦ inr (omega arith) | inr p ↦ inl (omega arith) ];
-      key-apart = elim (good-apart b g KR MR (omega arith) (omega arith) refl) [ inl p ↦ inr (omega arith) | inr p ↦ inl (omega arith) ];
+      apart = elim (good-apart b g MR CTR (omega arith) (omega arith) refl)
+          [ inl p ↦ inl (omega arith) | inr p ↦ inr (omega arith) ];
+      code-apart = elim (good-apart b g CR MR (omega arith) (omega arith) refl)
+          [ inl p ↦ inr (omega arith) | inr p ↦ inl (omega arith) ];
+      key-apart = elim (good-apart b g KR MR (omega arith) (omega arith) refl)
+          [ inl p ↦ inr (omega arith) | inr p ↦ inl (omega arith) ];
     }
 
 pub placed : (b : List ℕ) → Bytes b → layoutCheck b ≡ Done → Placed (layoutOf b)

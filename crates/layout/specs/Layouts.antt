@@ -10,17 +10,30 @@ use Rattle.refusal.specs.Answers.{refusedAt}
 use Rattle.refusal.specs.Numbers.{layoutSize, regionReversed, regionSize, zeroInCode, regionsShare}
 use Rattle.refusal.specs.declared.Answer.{Answer}
 use Rattle.refusal.specs.declared.Answer.the-variants.{Done}
-use Rattle.octets.specs.Numbers.{word}
+use Rattle.octets.specs.Numbers.{numberOfTwo}
 use Rattle.layout.specs.declared.Region.{Region}
 use Rattle.layout.specs.declared.Layout.{Layout}
 use Rattle.layout.specs.Regions.{within, reversed, size, shares}
 
--- the bytes of a layout, and how many regions they describe
+-- the bytes of a layout, how many regions they describe, and the bytes of each
 abbrev pub layoutBytes : ℕ
 layoutBytes = 24
 
 abbrev pub regions : ℕ
 regions = 6
+
+abbrev pub regionBytes : ℕ
+regionBytes = 4
+
+-- the bytes of KR and of CTR, and the fewest of MR
+abbrev pub keyBytes : ℕ
+keyBytes = 64
+
+abbrev pub counterBytes : ℕ
+counterBytes = 32
+
+abbrev pub leastMailbox : ℕ
+leastMailbox = 96
 
 -- the regions' numbers
 abbrev pub CR : ℕ
@@ -44,8 +57,8 @@ AR = 5
 -- region number k: its lowest and its highest address
 abbrev pub region : List ℕ → ℕ → Region
 region b k = record {
-  lo = word (getD b (4 * k) 0) (getD b (4 * k + 1) 0);
-  hi = word (getD b (4 * k + 2) 0) (getD b (4 * k + 3) 0);
+  lo = numberOfTwo (getD b (regionBytes * k) 0) (getD b (regionBytes * k + 1) 0);
+  hi = numberOfTwo (getD b (regionBytes * k + 2) 0) (getD b (regionBytes * k + 3) 0);
 }
 
 unfoldable pub layoutOf : List ℕ → Layout
@@ -58,9 +71,12 @@ layoutOf b = record {
   ar = region b AR;
 }
 
--- KR is 64 bytes, MR at least 96, CTR 32
+-- KR or CTR has another size, or MR is too small
 abbrev pub wrongSize : ℕ → Region → Bool
-wrongSize k r = eqb k KR && not (eqb (size r) 64) || eqb k MR && ltb (size r) 96 || eqb k CTR && not (eqb (size r) 32)
+wrongSize k r =
+    eqb k KR && not (eqb (size r) keyBytes)
+    || eqb k MR && ltb (size r) leastMailbox
+    || eqb k CTR && not (eqb (size r) counterBytes)
 
 -- of two regions, the lower number first: AR and CR may share
 abbrev pub mayShare : ℕ → ℕ → Bool
@@ -77,9 +93,11 @@ firstReversed b = first regions (λ k. reversed (region b k))
 abbrev pub firstWrongSize : List ℕ → ℕ
 firstWrongSize b = first regions (λ k. wrongSize k (region b k))
 
--- the pair of regions with the smallest number, six times the lower one's plus the higher one's, that collide; 36 if none do
+-- of the pairs of regions that collide the one with the smallest number, which is six times the lower one's plus the
+-- higher one's; 36 if none do
 abbrev pub firstCollision : List ℕ → ℕ
-firstCollision b = first (regions * regions) (λ n. ltb (n / regions) (n % regions) && collide b (n / regions) (n % regions))
+firstCollision b =
+    first (regions * regions) (λ n. ltb (n / regions) (n % regions) && collide b (n / regions) (n % regions))
 
 -- refusals 2 to 6, in the page's order
 unfoldable pub layoutCheck : List ℕ → Answer

@@ -22,7 +22,8 @@ Holds g a r = r ≡ within g a
 -- a layout's twelve numbers
 abbrev pub layoutValues : Layout → List ℕ
 layoutValues l =
-    l .cr .lo ∷ l .cr .hi ∷ l .kr .lo ∷ l .kr .hi ∷ l .xs .lo ∷ l .xs .hi ∷ l .mr .lo ∷ l .mr .hi ∷ l .ctr .lo ∷ l .ctr .hi ∷ l .ar .lo ∷ l .ar .hi ∷ []
+    l .cr .lo ∷ l .cr .hi ∷ l .kr .lo ∷ l .kr .hi ∷ l .xs .lo ∷ l .xs .hi
+    ∷ l .mr .lo ∷ l .mr .hi ∷ l .ctr .lo ∷ l .ctr .hi ∷ l .ar .lo ∷ l .ar .hi ∷ []
 
 -- the row of the check's answer: 0 and the layout's numbers, or the refusal's number and place
 abbrev pub checkedRow : Checked → List ℕ

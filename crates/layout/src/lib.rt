@@ -29,15 +29,29 @@ pub enum Checked {
     Refused(Refusal),
 }
 
-// The bytes of a layout, and how many regions they describe.
-const BYTES: usize = 24;
+// The bytes of a layout, how many regions they describe, and the bytes of each.
+pub const LAYOUT_BYTES: usize = 24;
 
 const REGIONS: usize = 6;
 
+const REGION_BYTES: usize = 4;
+
+// The bytes of KR and of CTR, and the fewest of MR.
+const KEY_BYTES: usize = 64;
+
+const COUNTER_BYTES: usize = 32;
+
+const LEAST_MAILBOX: usize = 96;
+
 // The bytes of a board's memory.
-pub const MEMORY: usize = 65_536;
+pub const MEMORY_BYTES: usize = 65_536;
+
+// The regions' numbers.
+const CR: usize = 0;
 
 const KR: usize = 1;
+
+const XS: usize = 2;
 
 const MR: usize = 3;
 
@@ -63,18 +77,18 @@ impl Region {
 }
 
 fn region_at(b: &[u8], k: usize) -> Region
-    requires { ⌜ (length (now b) ≡ 24) × (k < 6) ⌝ }
+    requires { ⌜ (length (now b) ≡ S.layoutBytes) × (k < S.regions) ⌝ }
     ensures { λ r. ⌜ r ≡ S.region (now (b .entry)) k ⌝ }
 {
-    let at = 4 * k;
+    let at = REGION_BYTES * k;
     Region {
-        lo: octets::word(b[at], b[at + 1]),
-        hi: octets::word(b[at + 2], b[at + 3]),
+        lo: octets::number_of_two(b[at], b[at + 1]),
+        hi: octets::number_of_two(b[at + 2], b[at + 3]),
     }
 }
 
 fn first_reversed(b: &[u8]) -> usize
-    requires { ⌜ length (now b) ≡ 24 ⌝ }
+    requires { ⌜ length (now b) ≡ S.layoutBytes ⌝ }
     ensures { λ r. ⌜ r ≡ S.firstReversed (now (b .entry)) ⌝ }
 {
     let mut k: usize = 0;
@@ -92,11 +106,13 @@ fn wrong_size(k: usize, r: Region) -> bool
     ensures { λ x. ⌜ x ≡ S.wrongSize k r ⌝ }
 {
     let n = r.size();
-    ((k == KR) & (n != 64)) | ((k == MR) & (n < 96)) | ((k == CTR) & (n != 32))
+    ((k == KR) & (n != KEY_BYTES))
+        | ((k == MR) & (n < LEAST_MAILBOX))
+        | ((k == CTR) & (n != COUNTER_BYTES))
 }
 
 fn first_wrong_size(b: &[u8]) -> usize
-    requires { ⌜ length (now b) ≡ 24 ⌝ }
+    requires { ⌜ length (now b) ≡ S.layoutBytes ⌝ }
     ensures { λ r. ⌜ r ≡ S.firstWrongSize (now (b .entry)) ⌝ }
 {
     let mut k: usize = 0;
@@ -111,17 +127,17 @@ fn first_wrong_size(b: &[u8]) -> usize
 
 // Two regions, the one with the lower number first, that share an address and may not: AR and CR may.
 fn collide(b: &[u8], i: usize, j: usize) -> bool
-    requires { ⌜ (length (now b) ≡ 24) × ((i < 6) × (j < 6)) ⌝ }
+    requires { ⌜ (length (now b) ≡ S.layoutBytes) × ((i < S.regions) × (j < S.regions)) ⌝ }
     ensures { λ r. ⌜ r ≡ S.collide (now (b .entry)) i j ⌝ }
 {
     let x = region_at(b, i);
     let y = region_at(b, j);
-    !((i == 0) & (j == AR)) & ((x.lo <= y.hi) & (y.lo <= x.hi))
+    !((i == CR) & (j == AR)) & ((x.lo <= y.hi) & (y.lo <= x.hi))
 }
 
-// Over all pairs by number: 6 times the one region's plus the other's.
+// The first pair of regions that collide, over all pairs by number: six times the one's plus the other's.
 fn first_collision(b: &[u8]) -> usize
-    requires { ⌜ length (now b) ≡ 24 ⌝ }
+    requires { ⌜ length (now b) ≡ S.layoutBytes ⌝ }
     ensures { λ r. ⌜ r ≡ S.firstCollision (now (b .entry)) ⌝ }
 {
     let mut n: usize = 0;
@@ -143,8 +159,8 @@ fn refused(number: u8, place: usize) -> Answer
 }
 
 // Refusals 3 to 6.
-fn vet(b: &[u8]) -> Answer
-    requires { ⌜ length (now b) ≡ 24 ⌝ }
+fn check_regions(b: &[u8]) -> Answer
+    requires { ⌜ length (now b) ≡ S.layoutBytes ⌝ }
     ensures { λ r. ⌜ r ≡ S.layoutCheck (now (b .entry)) ⌝ }
 {
     let reversed = first_reversed(b);
@@ -155,7 +171,7 @@ fn vet(b: &[u8]) -> Answer
     if missized < REGIONS {
         return refused(refusal::REGION_SIZE, missized);
     }
-    if region_at(b, 0).holds(0) {
+    if region_at(b, CR).holds(0) {
         return refused(refusal::ZERO_IN_CODE, 0);
     }
     if first_collision(b) < REGIONS * REGIONS {
@@ -164,13 +180,13 @@ fn vet(b: &[u8]) -> Answer
     Answer::Done
 }
 
-fn read(b: &[u8]) -> Layout
-    requires { ⌜ length (now b) ≡ 24 ⌝ }
+fn layout_of(b: &[u8]) -> Layout
+    requires { ⌜ length (now b) ≡ S.layoutBytes ⌝ }
     ensures { λ r. ⌜ r ≡ S.layoutOf (now (b .entry)) ⌝ }
 {
-    let cr = region_at(b, 0);
+    let cr = region_at(b, CR);
     let kr = region_at(b, KR);
-    let xs = region_at(b, 2);
+    let xs = region_at(b, XS);
     let mr = region_at(b, MR);
     let ctr = region_at(b, CTR);
     let ar = region_at(b, AR);
@@ -188,14 +204,14 @@ fn read(b: &[u8]) -> Layout
 pub fn check(layout: &[u8]) -> Checked
     ensures { λ r. ⌜ P.Checks (now (layout .entry)) r ⌝ }
 {
-    if layout.len() != BYTES {
+    if layout.len() != LAYOUT_BYTES {
         return Checked::Refused(Refusal {
             number: refusal::LAYOUT_SIZE,
             place: 0,
         });
     }
-    match vet(layout) {
-        Answer::Done => Checked::Good(read(layout)),
+    match check_regions(layout) {
+        Answer::Done => Checked::Good(layout_of(layout)),
         Answer::Refused(r) => Checked::Refused(r),
     }
 }
@@ -204,7 +220,7 @@ pub fn check(layout: &[u8]) -> Checked
 pub fn admit(memory: &[u8], layout: &[u8], rest: Answer) -> Checked
     ensures { λ r. ⌜ P.Admits (now (memory .entry)) (now (layout .entry)) rest r ⌝ }
 {
-    if memory.len() != MEMORY {
+    if memory.len() != MEMORY_BYTES {
         return Checked::Refused(Refusal {
             number: refusal::MEMORY_SIZE,
             place: 0,

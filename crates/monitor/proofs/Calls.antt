@@ -5,7 +5,7 @@ use Prim.Native.Nat.{ℕ, _*_, _≤_, _<_}
 use native.Mathlib.Omega.{arith}
 use lib.ListN.{length, drop}
 use borrow.Author.Tests.{eq-eqb, ne-eqb, lt-ltb, le-ltb}
-use Rattle.refusal.specs.Answers.{row, refusedAt, told, lent}
+use Rattle.refusal.specs.Answers.{row, refusedAt, told, afterCall}
 use Rattle.refusal.specs.Numbers.{memorySize, roomSize}
 use Rattle.refusal.specs.Settled.{row-settled}
 use Rattle.refusal.specs.declared.Refusal.{Refusal}
@@ -95,9 +95,9 @@ ran memory layout b room memory′ room′ l r e d =
       answered = simp (g .0)
           (f .answered ∙ ap (λ (a : Answer). told a (totalsValues (totals (layoutOf layout) b memory))) c);
       memory-left = simp (g .0)
-          (f .memory-left ∙ ap (λ (a : Answer). lent a (memoryAfter (layoutOf layout) b memory) memory) c);
+          (f .memory-left ∙ ap (λ (a : Answer). afterCall a (memoryAfter (layoutOf layout) b memory) memory) c);
       room-left = simp (g .0)
-          (f .room-left ∙ ap (λ (a : Answer). lent a (roomAfter (layoutOf layout) b memory room) room) c);
+          (f .room-left ∙ ap (λ (a : Answer). afterCall a (roomAfter (layoutOf layout) b memory room) room) c);
     }
 
 pub run-of : (l : Layout) (b memory room memory′ room′ : List ℕ) (r : Totals) → length memory ≡ memoryBytes

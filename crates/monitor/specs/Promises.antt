@@ -7,7 +7,7 @@ use lib.Dec.{eqb, ltb}
 use lib.ListN.{length, drop}
 use Rattle.notions.specs.Choice.{pick}
 use Rattle.refusal.specs.Answers as A
-use Rattle.refusal.specs.Answers.{refusedAt, told, lent}
+use Rattle.refusal.specs.Answers.{refusedAt, told, afterCall}
 use Rattle.refusal.specs.Numbers.{memorySize, roomSize}
 use Rattle.refusal.specs.declared.Answer.{Answer}
 use Rattle.refusal.specs.declared.Answer.the-variants as call
@@ -63,11 +63,11 @@ pub record Traces (memory layout trace room memory′ room′ : List ℕ) (r : T
       (totalsValues (totals (layoutOf layout) trace memory))
   pub memory-left :
       memory′
-      ≡ lent (callCheck memory layout (traceCheck trace (length room))) (memoryAfter (layoutOf layout) trace memory)
+      ≡ afterCall (callCheck memory layout (traceCheck trace (length room))) (memoryAfter (layoutOf layout) trace memory)
       memory
   pub room-left :
       room′
-      ≡ lent (callCheck memory layout (traceCheck trace (length room))) (roomAfter (layoutOf layout) trace memory room)
+      ≡ afterCall (callCheck memory layout (traceCheck trace (length room))) (roomAfter (layoutOf layout) trace memory room)
       room
 
 -- `step`, from whatever the monitor m remembers
@@ -78,16 +78,16 @@ pub record Steps (memory layout step : List ℕ) (m : Monitor) (room memory′ r
       (remembered (next (layoutOf layout) m (steps step 0)))
   pub memory-left :
       memory′
-      ≡ lent (callCheck memory layout (stepCheck step (length room)))
+      ≡ afterCall (callCheck memory layout (stepCheck step (length room)))
       (decidedMemory (layoutOf layout) m (steps step 0) memory) memory
   pub room-left :
       room′
-      ≡ lent (callCheck memory layout (stepCheck step (length room)))
+      ≡ afterCall (callCheck memory layout (stepCheck step (length room)))
       (bytes (decidedAnswer (layoutOf layout) m (steps step 0) memory) ++ drop answerSize room)
       room
 
 -- `run_with`, the run alone: whatever the steps' zero bits and bytes are, and however many there are
 pub record Runs (l : Layout) (trace memory room memory′ room′ : List ℕ) (r : Traced) : Type 0 where
   pub answered : tracedRow r ≡ told (runCheck memory trace (length room)) (totalsValues (totals l trace memory))
-  pub memory-left : memory′ ≡ lent (runCheck memory trace (length room)) (memoryAfter l trace memory) memory
-  pub room-left : room′ ≡ lent (runCheck memory trace (length room)) (roomAfter l trace memory room) room
+  pub memory-left : memory′ ≡ afterCall (runCheck memory trace (length room)) (memoryAfter l trace memory) memory
+  pub room-left : room′ ≡ afterCall (runCheck memory trace (length room)) (roomAfter l trace memory room) room

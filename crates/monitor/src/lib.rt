@@ -106,7 +106,7 @@ pub fn run_with(l: Layout, trace: &[u8], memory: &mut [u8], room: &mut [u8]) -> 
     ensures { λ r. ⌜ P.Runs l (now (trace .entry)) (now (memory .entry)) (now (room .entry))
         (now (memory .exit)) (now (room .exit)) r ⌝ }
 {
-    if memory.len() != layout::MEMORY {
+    if memory.len() != layout::MEMORY_BYTES {
         return Traced::Refused(Refusal {
             number: refusal::MEMORY_SIZE,
             place: 0,

@@ -40,7 +40,8 @@ sets-out l [] i h = refl
 sets-out l (a ∷ t) i h = ap (λ (r : List ℕ). sets r (suc i) t) (set-out l i a h) ∙ sets-out l t (suc i) (omega arith)
 
 -- n of them, and all, where they fit
-pub laid-part : (l : List ℕ) (i n : ℕ) (x : List ℕ) → i + n ≤ length l → n ≤ length x → sets l i (take n x) ≡ paste l i x n
+pub laid-part : (l : List ℕ) (i n : ℕ) (x : List ℕ) → i + n ≤ length l → n ≤ length x
+    → sets l i (take n x) ≡ paste l i x n
 laid-part l i n x h k =
     let e : length (take n x) ≡ n = length-take-le n x k in
     sets-eq (take n x) l i (omega arith) ∙ ap (λ (j : ℕ). take i l ++ take n x ++ drop (i + j) l) e

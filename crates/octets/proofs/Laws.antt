@@ -8,8 +8,8 @@ use lib.ListN.{length, getD, take, drop}
 use lib.Seq.{getD-drop, length-take-le}
 use Rattle.notions.specs.Bytes.{Bytes}
 use Rattle.notions.proofs.Bytes.{bytes-take}
-use Rattle.octets.specs.Numbers.{number, little, word}
-use Rattle.octets.specs.Back.{BytesBack, NumberBack, WordNumber}
+use Rattle.octets.specs.Numbers.{number, little, numberOfTwo}
+use Rattle.octets.specs.Back.{BytesBack, NumberBack, TwoNumber}
 
 low : (x m : ℕ) → x < 256 → (x + 256 * m) % 256 ≡ x
 low x m h = omega arith
@@ -38,16 +38,16 @@ pub part-back : (k : ℕ) (b : List ℕ) → Bytes b → k ≤ length b → litt
 part-back k b p h =
     ap (λ (j : ℕ). little j (number (take k b))) (sym (length-take-le k b h)) ∙ bytes-back (take k b) (bytes-take k b p)
 
-pub word-back : (x y : ℕ) → x < 256 → y < 256 → (word x y % 256 ≡ x) × (word x y / 256 % 256 ≡ y)
+pub word-back : (x y : ℕ) → x < 256 → y < 256 → (numberOfTwo x y % 256 ≡ x) × (numberOfTwo x y / 256 % 256 ≡ y)
 word-back x y h k = (low x y h, omega arith)
 
-first-two : (l : List ℕ) → number (take 2 l) ≡ word (getD l 0 0) (getD l 1 0)
+first-two : (l : List ℕ) → number (take 2 l) ≡ numberOfTwo (getD l 0 0) (getD l 1 0)
 unfolding number
 first-two [] = refl
 first-two (x ∷ []) = omega arith
 first-two (x ∷ y ∷ l) = omega arith
 
-pub word-number : WordNumber
-word-number b p =
+pub two-number : TwoNumber
+two-number b p =
     let z : p + 0 ≡ p = add-zero p in
     first-two (drop p b) ∙ simp (getD-drop, z)

@@ -17,6 +17,10 @@ little (suc k) n = n % 256 ∷ little k (n / 256)
 abbrev pub numberAt : List ℕ → ℕ → ℕ → ℕ
 numberAt b p k = number (take k (drop p b))
 
--- the number of two bytes; `word-number` shows that this is no other notion
-abbrev pub word : ℕ → ℕ → ℕ
-word low high = low + 256 * high
+-- the most bytes that a number is read from
+abbrev pub numberBytes : ℕ
+numberBytes = 8
+
+-- the number of two bytes; `two-number` shows that this is no other notion
+abbrev pub numberOfTwo : ℕ → ℕ → ℕ
+numberOfTwo low high = low + 256 * high

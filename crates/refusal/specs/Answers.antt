@@ -38,6 +38,6 @@ told Done v = 0 ∷ v
 told (Refused r) v = row (Refused r)
 
 -- what stands in a lent slice after the call: `new` if its check refuses nothing, else what stood there before
-abbrev pub lent : Answer → List ℕ → List ℕ → List ℕ
-lent Done new old = new
-lent (Refused r) new old = old
+abbrev pub afterCall : Answer → List ℕ → List ℕ → List ℕ
+afterCall Done new old = new
+afterCall (Refused r) new old = old

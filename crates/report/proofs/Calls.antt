@@ -25,7 +25,8 @@ tellable-by : (f memory room : List ℕ) (a : Answer) (o : Traced) → judgeChec
     → tracedRow o ≡ told a (totalsValues (fileTotals f)) → Tellable o (length room)
 tellable-by f memory room call.Done o e w =
     let p = trace-passed (fileTrace f) (length room) (admitted f memory room e .trace) in
-    subst (λ (x : Traced). Tellable x (length room)) (sym (traced-row-settled o (traced.Judged (fileTotals f)) w)) (p .most, p .roomy)
+    subst (λ (x : Traced). Tellable x (length room)) (sym (traced-row-settled o (traced.Judged (fileTotals f)) w))
+    (p .most, p .roomy)
 tellable-by f memory room (call.Refused r) o e w =
     subst (λ (x : Traced). Tellable x (length room)) (sym (traced-row-settled o (traced.Refused r) w)) tt
 

@@ -1,4 +1,5 @@
--- Decimal numbers: the digits that the code counts are the ones that the text names, and how many there are. Assumes nothing.
+-- Decimal numbers: the digits that the code counts are the ones that the text names, and how many there are.
+-- Assumes nothing.
 use mathlib.Core.Path.{_≡_, refl, ap, sym, subst, _∙_}
 use mathlib.Core.Logic.{⊎-elim}
 use mathlib.Core.Bool.{Bool, false}
@@ -23,10 +24,12 @@ fewest n j f h =
     let p : ℕ → Bool = λ k. ltb n (10 ^ suc k) in
     let e : suc j - 1 ≡ j = omega arith in
     let low : (k : ℕ) → k < j → p k ≡ false =
-    λ k l. le-ltb n (10 ^ suc k) (le-trans (pow-le-pow-right (omega arith) l) (subst (λ (m : ℕ). 10 ^ m ≤ n) e (f .2 (omega arith)))) in
+    λ k l. le-ltb n (10 ^ suc k)
+    (le-trans (pow-le-pow-right (omega arith) l) (subst (λ (m : ℕ). 10 ^ m ≤ n) e (f .2 (omega arith)))) in
     ap suc
     (sym
-    (⊎-elim (λ e. subst (λ (m : ℕ). first m p ≡ j) e (first-none j p low)) (λ l. first-is 19 p j l low (lt-ltb n (10 ^ suc j) (f .1)))
+    (⊎-elim (λ e. subst (λ (m : ℕ). first m p ≡ j) e (first-none j p low))
+    (λ l. first-is 19 p j l low (lt-ltb n (10 ^ suc j) (f .1)))
     (eq-or-lt-of-le h)))
 
 places-are : (n k : ℕ) → Fewest 10 1 n k → k ≤ 20 → k ≡ places n
@@ -41,7 +44,8 @@ spelled n k o o′ t at r f h e w =
     subst (λ (s : List ℕ). Wrote o o′ at s r) (e ∙ ap (λ (m : ℕ). digits 10 m n) (places-are n k f h)) w
 
 -- and that of a byte its two hexadecimal digits
-pub spelled-hex : (n k : ℕ) (o o′ t : List ℕ) (at r : ℕ) → k ≡ 2 → t ≡ digits 16 k n → Wrote o o′ at t r → Wrote o o′ at (digits 16 2 n) r
+pub spelled-hex : (n k : ℕ) (o o′ t : List ℕ) (at r : ℕ) → k ≡ 2 → t ≡ digits 16 k n → Wrote o o′ at t r
+    → Wrote o o′ at (digits 16 2 n) r
 spelled-hex n k o o′ t at r h e w = subst (λ (s : List ℕ). Wrote o o′ at s r) (e ∙ ap (λ (m : ℕ). digits 16 m n) h) w
 
 -- a 64-bit number has at most 20 digits

@@ -26,11 +26,12 @@ use Rattle.monitor.specs.declared.Totals.{Totals}
 use Rattle.effects.specs.Effects.{exposing, answer}
 use Rattle.monitor.specs.Runs.{State, begin, before, said, resetting}
 use Rattle.traces.specs.Traces.{count, steps}
-use Rattle.runfile.specs.Contents.{fileCheck, body}
+use Rattle.file_contents.specs.Contents.{fileCheck, body}
 use Rattle.runfile.specs.Promises.{fileLayout, fileMemory, fileTrace, fileTotals, judgeCheck}
-use Rattle.runfile.proofs.Entries.{sound}
+use Rattle.file_contents.proofs.Entries.{sound}
 use Rattle.runfile.proofs.Files.{admitted}
-use Rattle.report.specs.Text.{places, shown, cpuShown, dmaShown, line, lines, totalsLine, refusedLine, judgedText, printed, fileText}
+use Rattle.report.specs.Text.{places, shown, cpuShown, dmaShown, line, lines, totalsLine, refusedLine, judgedText}
+use Rattle.report.specs.Text.{printed, fileText}
 use Rattle.report.specs.Promises.{Writes}
 use Rattle.report.proofs.Decimal.{length-digits, length-decimal, places-most, places-twenty}
 
@@ -51,21 +52,23 @@ cause-most l m s =
     let k = first 11 (numbered (broken l m s)) in
     cases (rule15 m s) (λ e. simp e (omega arith))
     (λ e.
-    cases (ltb k 11) (λ g. simp (e, g) (omega (arith, first-most 11 (numbered (broken l m s))))) (λ g. simp (e, g) (omega arith)))
+    cases (ltb k 11) (λ g. simp (e, g) (omega (arith, first-most 11 (numbered (broken l m s)))))
+    (λ g. simp (e, g) (omega arith)))
 
--- a step that resets has a cause of two digits at most and shows no byte; one that passes has cause 0 and shows two at most
+-- a step that resets has a cause of two digits at most and shows no byte; one that passes has cause 0 and shows two at
+-- most
 either-most : (t : Bool) (k c : ℕ) (a : StepAnswer) → c ≤ 15 → a .cause ≡ 0
-    → length (line k (pick t (record { cause = c; exposed = 0; cpu = 0; dma = 0 }) a)) + pick t 1 0 ≤ places k + 9
+    → length (line k (pick t (record { cause = c; exposed = 0; cpubyte = 0; dmabyte = 0 }) a)) + pick t 1 0 ≤ places k + 9
 either-most true k c a h e =
-    omega (arith, length-line k (record { cause = c; exposed = 0; cpu = 0; dma = 0 }), places-most c 1 (omega arith))
+    omega (arith, length-line k (record { cause = c; exposed = 0; cpubyte = 0; dmabyte = 0 }), places-most c 1 (omega arith))
 either-most false k c a h e =
     let p = places-most (a .cause) 0 (omega arith) in
-    let x = shown-most (eqb (a .exposed % 2) 1) (a .cpu) in
-    let y = shown-most (eqb (a .exposed / 2 % 2) 1) (a .dma) in
+    let x = shown-most (eqb (a .exposed % 2) 1) (a .cpubyte) in
+    let y = shown-most (eqb (a .exposed / 2 % 2) 1) (a .dmabyte) in
     omega (arith, length-line k a, p, x, y)
 
 line-most : (l : Layout) (m : Monitor) (s : Step) (memory : List ℕ) (k : ℕ)
-    → length (line k (answer l m s memory)) + pick (resets l m s) 1 0 ≤ places k + 9
+    → length (line k (decidedAnswer l m s memory)) + pick (resets l m s) 1 0 ≤ places k + 9
 unfolding answer exposing
 line-most l m s memory k = either-most (resets l m s) k (cause l m s) (exposing l s memory) (cause-most l m s) refl
 
@@ -76,7 +79,8 @@ unfoldable linesMost : ℕ → ℕ
 linesMost zero = 0
 linesMost (suc n) = linesMost n + (places n + 9)
 
-lines-most : (l : Layout) (t : ℕ → Step) (x : State) (n : ℕ) → length (lines (said l t x) n) + resetting l t x n ≤ linesMost n
+lines-most : (l : Layout) (t : ℕ → Step) (x : State) (n : ℕ)
+    → length (lines (said l t x) n) + resetting l t x n ≤ linesMost n
 unfolding lines linesMost resetting
 lines-most l t x zero = omega arith
 lines-most l t x (suc n) =
@@ -118,7 +122,8 @@ sum-most n h =
     (λ e.
     let l = ltb-false n 1000 e in
     let z : 1000 + (n - 1000) ≡ n = omega arith in
-    let w = subst (λ (m : ℕ). linesMost m ≤ linesMost 1000 + (n - 1000) * 13) z (four-digits 1000 (n - 1000) (omega arith)) in
+    let w = subst (λ (m : ℕ). linesMost m ≤ linesMost 1000 + (n - 1000) * 13) z
+    (four-digits 1000 (n - 1000) (omega arith)) in
     omega (arith, w, thousand))
 
 -- ---- texts
@@ -137,7 +142,8 @@ length-totals t = simp (length-append, length-decimal) (omega arith)
 
 pub length-refused : (r : Refusal) → length (refusedLine r) ≤ 50
 unfolding refusedLine
-length-refused r = simp (length-append, length-decimal) (omega (arith, places-twenty (r .number), places-twenty (r .place)))
+length-refused r =
+    simp (length-append, length-decimal) (omega (arith, places-twenty (r .number), places-twenty (r .place)))
 
 -- a run of at most 4,092 steps
 pub run-most : (l : Layout) (t : ℕ → Step) (x : State) (n : ℕ) → n ≤ 4092
@@ -163,7 +169,8 @@ steps-most f e =
     simp (length-take, length-drop) (omega (arith, s .most, s .trace))
 
 printed-most : (f memory room : List ℕ) (a : Answer) → judgeCheck f memory room ≡ a
-    → length (printed a (judgedText (said (fileLayout f) (steps (fileTrace f)) (begin (fileMemory f))) (fileTotals f))) ≤ 52125
+    → length (printed a
+    (judgedText (said (fileLayout f) (steps (fileTrace f)) (begin (fileMemory f))) (fileTotals f))) ≤ 52125
 printed-most f memory room Done e =
     let h = steps-most f (admitted f memory room e .contents) in
     run-most (fileLayout f) (steps (fileTrace f)) (begin (fileMemory f)) (count (fileTrace f)) h
@@ -172,7 +179,8 @@ printed-most f memory room (Refused r) e = omega (arith, length-refused r)
 pub largest : (f memory room : List ℕ) → length (fileText f memory room) ≤ 52125
 largest f memory room = printed-most f memory room (judgeCheck f memory room) refl
 
-pub fits : (f memory room out memory′ room′ out′ : List ℕ) (r : ℕ) → Writes f memory room out memory′ room′ out′ r → r ≤ 52125
+pub fits : (f memory room out memory′ room′ out′ : List ℕ) (r : ℕ) → Writes f memory room out memory′ room′ out′ r
+    → r ≤ 52125
 fits f memory room out memory′ room′ out′ r w = omega (arith, w .answered, largest f memory room)
 
 -- so a buffer of that size holds the text of any file whole: the first r bytes
@@ -182,5 +190,8 @@ whole-text f memory room out memory′ room′ out′ r w h =
     let text = fileText f memory room in
     let e : out′ ≡ text ++ drop (length text) out =
     w .out-left
-    ∙ ap (λ (l : List ℕ). l ++ drop (length text) out) (take-all (length out) text (omega (arith, largest f memory room))) in
-    (rw e (simp length-append (omega (arith, w .answered))), rw e (take-at text (drop (length text) out) r (sym (w .answered))))
+    ∙ ap (λ (l : List ℕ). l ++ drop (length text) out)
+    (take-all (length out) text (omega (arith, largest f memory room))) in (
+      rw e (simp length-append (omega (arith, w .answered))),
+      rw e (take-at text (drop (length text) out) r (sym (w .answered))),
+    )

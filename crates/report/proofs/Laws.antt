@@ -6,7 +6,7 @@ use native.Mathlib.Nat.{add-zero}
 use native.Mathlib.Omega.{arith}
 use lib.ListN.{getD, take, drop}
 use lib.Seq.{getD-take, getD-drop}
-use Rattle.refusal.specs.Answers.{told, lent}
+use Rattle.refusal.specs.Answers.{told, afterCall}
 use Rattle.refusal.specs.declared.Answer.{Answer}
 use Rattle.refusal.specs.declared.Answer.the-variants as call
 use Rattle.layout.specs.declared.Layout.{Layout}
@@ -26,19 +26,20 @@ use Rattle.report.specs.Inner.{answerAt, textOf}
 
 -- ---- answers
 
-byte-at : (room : List ℕ) (k j : ℕ) (a : StepAnswer) → take answerSize (drop (answerSize * k) room) ≡ bytes a → j < answerSize
+byte-at : (room : List ℕ) (k j : ℕ) (a : StepAnswer) → take answerSize (drop (answerSize * k) room) ≡ bytes a
+    → j < answerSize
     → getD room (answerSize * k + j) 0 ≡ getD (bytes a) j 0
 byte-at room k j a e h =
     sym (getD-take answerSize (drop (answerSize * k) room) j 0 h ∙ getD-drop (answerSize * k) room j 0)
     ∙ ap (λ (l : List ℕ). getD l j 0) e
 
-answer-is : (a : StepAnswer) (cause exposed cpu dma : ℕ) → cause ≡ a .cause → exposed ≡ a .exposed → cpu ≡ a .cpu
-    → dma ≡ a .dma → _≡_ {A = StepAnswer} (record { cause = cause; exposed = exposed; cpu = cpu; dma = dma }) a
+answer-is : (a : StepAnswer) (cause exposed cpu dma : ℕ) → cause ≡ a .cause → exposed ≡ a .exposed → cpu ≡ a .cpubyte
+    → dma ≡ a .dmabyte → _≡_ {A = StepAnswer} (record { cause = cause; exposed = exposed; cpubyte = cpu; dmabyte = dma }) a
 answer-is a cause exposed cpu dma e f g h =
-    ap (λ (x : ℕ). record { cause = x; exposed = exposed; cpu = cpu; dma = dma }) e
-    ∙ ap (λ (x : ℕ). record { cause = a .cause; exposed = x; cpu = cpu; dma = dma }) f
-    ∙ ap (λ (x : ℕ). record { cause = a .cause; exposed = a .exposed; cpu = x; dma = dma }) g
-    ∙ ap (λ (x : ℕ). record { cause = a .cause; exposed = a .exposed; cpu = a .cpu; dma = x }) h
+    ap (λ (x : ℕ). record { cause = x; exposed = exposed; cpubyte = cpu; dmabyte = dma }) e
+    ∙ ap (λ (x : ℕ). record { cause = a .cause; exposed = x; cpubyte = cpu; dmabyte = dma }) f
+    ∙ ap (λ (x : ℕ). record { cause = a .cause; exposed = a .exposed; cpubyte = x; dmabyte = dma }) g
+    ∙ ap (λ (x : ℕ). record { cause = a .cause; exposed = a .exposed; cpubyte = a .cpubyte; dmabyte = x }) h
 
 -- the answer of step k that stands in the room is what step k answers
 pub answer-stands : (l : Layout) (t : ℕ → Step) (x : State) (n k : ℕ) (rest : List ℕ) → k < n
@@ -47,7 +48,8 @@ answer-stands l t x n k rest h =
     let room = answers l t x n ++ rest in
     let a = said l t x k in
     let e = answer-at l t x n k rest h in
-    answer-is a (getD room (answerSize * k) 0) (getD room (answerSize * k + 1) 0) (getD room (answerSize * k + 2) 0) (getD room (answerSize * k + 3) 0)
+    answer-is a (getD room (answerSize * k) 0) (getD room (answerSize * k + 1) 0) (getD room (answerSize * k + 2) 0)
+    (getD room (answerSize * k + 3) 0)
     (ap (λ (p : ℕ). getD room p 0) (sym (add-zero (answerSize * k))) ∙ byte-at room k 0 a e (omega arith))
     (byte-at room k 1 a e (omega arith))
     (byte-at room k 2 a e (omega arith))
@@ -63,13 +65,15 @@ lines-same a b (suc n) f =
     ap (λ (l : List ℕ). l ++ line n (a n)) (lines-same a b n (λ k h. f k (omega arith)))
     ∙ ap (λ (x : StepAnswer). lines b n ++ line n x) (f n (omega arith))
 
-pub judged-same : (a b : ℕ → StepAnswer) (t : Totals) → ((k : ℕ) → k < t .steps → a k ≡ b k) → judgedText a t ≡ judgedText b t
+pub judged-same : (a b : ℕ → StepAnswer) (t : Totals) → ((k : ℕ) → k < t .steps → a k ≡ b k)
+    → judgedText a t ≡ judgedText b t
 unfolding judgedText
 judged-same a b t f = ap (λ (l : List ℕ). header ++ l ++ totalsLine t) (lines-same a b (t .steps) f)
 
 -- what is told of an answer, and of the room that it leaves, is what is printed of the run
-pub run-text : (l : Layout) (b memory room : List ℕ) (a : Answer) (o : Traced) → tracedRow o ≡ told a (totalsValues (totals l b memory))
-    → textOf o (lent a (roomAfter l b memory room) room)
+pub run-text : (l : Layout) (b memory room : List ℕ) (a : Answer) (o : Traced)
+    → tracedRow o ≡ told a (totalsValues (totals l b memory))
+    → textOf o (afterCall a (roomAfter l b memory room) room)
     ≡ printed a (judgedText (said l (steps b) (begin memory)) (totals l b memory))
 unfolding textOf
 run-text l b memory room call.Done o e =
@@ -77,4 +81,5 @@ run-text l b memory room call.Done o e =
     ap (λ (x : Traced). textOf x room′) (traced-row-settled o (traced.Judged (totals l b memory)) e)
     ∙ judged-same (answerAt room′) (said l (steps b) (begin memory)) (totals l b memory)
     (λ k h. answer-stands l (steps b) (begin memory) (count b) k _ h)
-run-text l b memory room (call.Refused r) o e = ap (λ (x : Traced). textOf x room) (traced-row-settled o (traced.Refused r) e)
+run-text l b memory room (call.Refused r) o e =
+    ap (λ (x : Traced). textOf x room) (traced-row-settled o (traced.Refused r) e)

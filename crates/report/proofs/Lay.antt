@@ -40,6 +40,7 @@ unfolding lines
 line-more answer a o₀ o o′ from at i r e v w =
     rw add-one (then v (subst (λ (x : StepAnswer). Wrote o o′ at (line i x) r) e w))
 
-pub lines-whole : (answer : ℕ → StepAnswer) (o o′ : List ℕ) (from at i n : ℕ) → i ≡ n → Wrote o o′ from (lines answer i) at
+pub lines-whole : (answer : ℕ → StepAnswer) (o o′ : List ℕ) (from at i n : ℕ) → i ≡ n
+    → Wrote o o′ from (lines answer i) at
     → Wrote o o′ from (lines answer n) at
 lines-whole answer o o′ from at i n e v = subst (λ (k : ℕ). Wrote o o′ from (lines answer k) at) e v

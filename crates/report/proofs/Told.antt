@@ -23,7 +23,8 @@ unfolding textOf judgedText
 judged-told o t a b c d room i j r e u v w =
     subst (λ (x : Traced). Wrote a d 0 (textOf x room) r) (sym e) (then (then u v) w)
 
-pub refused-told : (o : Traced) (x : Refusal) (a b room : List ℕ) (r : ℕ) → o ≡ Refused x → Wrote a b 0 (refusedLine x) r
+pub refused-told : (o : Traced) (x : Refusal) (a b room : List ℕ) (r : ℕ) → o ≡ Refused x
+    → Wrote a b 0 (refusedLine x) r
     → Wrote a b 0 (textOf o room) r
 unfolding textOf
 refused-told o x a b room r e w = subst (λ (y : Traced). Wrote a b 0 (textOf y room) r) (sym e) w

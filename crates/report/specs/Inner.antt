@@ -11,6 +11,30 @@ use Rattle.traces.specs.Traces.{answerSize}
 use Rattle.traces.specs.Traces.{mostSteps}
 use Rattle.report.specs.Text.{judgedText, refusedLine}
 
+-- the most bytes of a decimal number, of a field or a word, and of a step's line; a shown byte has two
+abbrev pub mostDigits : ℕ
+mostDigits = 20
+
+abbrev pub hexDigits : ℕ
+hexDigits = 2
+
+abbrev pub mostField : ℕ
+mostField = 100
+
+abbrev pub mostLine : ℕ
+mostLine = 15
+
+-- places from which a line, a field and a byte may be written: so far apart that a line's fields end below the next, so
+-- far above every text that all of its lines begin below, and so far below 2 ^ 64 that no sum wraps
+abbrev pub mostLineAt : ℕ
+mostLineAt = 800000
+
+abbrev pub mostFieldAt : ℕ
+mostFieldAt = 900000
+
+abbrev pub mostByteAt : ℕ
+mostByteAt = 1000000
+
 -- a text is laid into a buffer from a place on, as far as it fits, and r is the place behind it
 pub record Wrote (out out′ : List ℕ) (at : ℕ) (text : List ℕ) (r : ℕ) : Type 0 where
   pub next : r ≡ at + length text
@@ -21,8 +45,8 @@ abbrev pub answerAt : List ℕ → ℕ → StepAnswer
 answerAt room k = record {
   cause = getD room (answerSize * k) 0;
   exposed = getD room (answerSize * k + 1) 0;
-  cpu = getD room (answerSize * k + 2) 0;
-  dma = getD room (answerSize * k + 3) 0;
+  cpubyte = getD room (answerSize * k + 2) 0;
+  dmabyte = getD room (answerSize * k + 3) 0;
 }
 
 -- the text of an answer, and of the room in which its steps' answers stand

@@ -6,8 +6,9 @@ use lib.ListN.{length, take, drop}
 use Rattle.runfile.specs.Promises.{memoryLeft, roomLeft}
 use Rattle.report.specs.Text.{fileText}
 
--- `text`: the text's length, whether it fits or not; a buffer that is too short holds the beginning of the text, and a longer
--- one keeps what stood behind it. Memory, room and out are lent, and the others are what stands there afterwards.
+-- `text`: the text's length, whether it fits or not; a buffer that is too short holds the beginning of the text, and a
+-- longer one keeps what stood behind it. Memory, room and out are lent, and the others are what stands there
+-- afterwards.
 pub record Writes (file memory room out memory′ room′ out′ : List ℕ) (r : ℕ) : Type 0 where
   pub answered : r ≡ length (fileText file memory room)
   pub memory-left : memory′ ≡ memoryLeft file memory room

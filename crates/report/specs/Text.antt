@@ -42,10 +42,10 @@ header = 115 ∷ 116 ∷ 101 ∷ 112 ∷ 32 ∷ 99 ∷ 97 ∷ 117 ∷ 115 ∷ 10
 
 -- bit 0 of an answer says that the CPU's byte is exposed, bit 1 that the DMA's is
 abbrev pub cpuShown : StepAnswer → List ℕ
-cpuShown a = shown (eqb (a .exposed % 2) 1) (a .cpu)
+cpuShown a = shown (eqb (a .exposed % 2) 1) (a .cpubyte)
 
 abbrev pub dmaShown : StepAnswer → List ℕ
-dmaShown a = shown (eqb (a .exposed / 2 % 2) 1) (a .dma)
+dmaShown a = shown (eqb (a .exposed / 2 % 2) 1) (a .dmabyte)
 
 -- a step: its number, cause, exposed CPU byte, exposed DMA byte
 unfoldable pub line : ℕ → StepAnswer → List ℕ

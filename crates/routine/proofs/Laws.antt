@@ -34,7 +34,8 @@ unfolding reply replyTo
 length-reply k challenge region = length-hmac _ region
 
 -- the reply to a T that equals the challenge's
-pub reply-to-is : (k challenge t region : List ℕ) → token k challenge ≡ t → replyTo k t region ≡ reply k challenge region
+pub reply-to-is : (k challenge t region : List ℕ) → token k challenge ≡ t
+    → replyTo k t region ≡ reply k challenge region
 unfolding reply
 reply-to-is k challenge t region e = ap (λ (x : List ℕ). replyTo k x region) (sym e)
 
@@ -52,7 +53,8 @@ request-passed k challenge received counter e =
     let q = done-passed (not (same (token k challenge) received)) _ _ (p .1) in
     (not-false _ (p .0), same-equal (token k challenge) received (not-false _ (q .0)))
 
-pub request-passes : (k challenge received counter : List ℕ) → greater challenge counter ≡ true → token k challenge ≡ received
+pub request-passes : (k challenge received counter : List ℕ) → greater challenge counter ≡ true
+    → token k challenge ≡ received
     → requestCheck k challenge received counter ≡ Done
 unfolding requestCheck
 request-passes k challenge received counter g e = simp (g, equal-same (token k challenge) received e)
@@ -63,7 +65,8 @@ pub request-old : (k challenge received counter : List ℕ) → greater challeng
 unfolding requestCheck
 request-old k challenge received counter g = simp g
 
-pub request-forged : (k challenge received counter : List ℕ) → greater challenge counter ≡ true → token k challenge ≢ received
+pub request-forged : (k challenge received counter : List ℕ) → greater challenge counter ≡ true
+    → token k challenge ≢ received
     → requestCheck k challenge received counter ≡ refusedAt tokenDiffers 0
 unfolding requestCheck
 request-forged k challenge received counter g n =
@@ -75,4 +78,5 @@ unfolding requestCheck
 request-numbers k challenge received counter =
     let P : ℕ → Type 0 = λ n. (challengeNotGreater ≤ n) × (n ≤ tokenDiffers) in
     refuses-test P (not (greater challenge counter)) challengeNotGreater 0 _ (omega arith, omega arith)
-    (refuses-test P (not (same (token k challenge) received)) tokenDiffers 0 Done (omega arith, omega arith) (refuses-none P))
+    (refuses-test P (not (same (token k challenge) received)) tokenDiffers 0 Done (omega arith, omega arith)
+    (refuses-none P))

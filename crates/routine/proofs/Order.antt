@@ -1,5 +1,5 @@
--- What the comparisons mean: `same` is equality, and `greater` is a strict order, on strings of one length that of the numbers
--- that they stand for. Assumes nothing.
+-- What the comparisons mean: `same` is equality, and `greater` is a strict order, on strings of one length that of the
+-- numbers that they stand for. Assumes nothing.
 use mathlib.Core.Path.{_≡_, refl, sym, _∙_}
 use mathlib.Core.List.{List, [], _∷_}
 use mathlib.Core.Logic.{_↔_, _⊎_, inl, inr}
@@ -71,7 +71,11 @@ greater-trans (x ∷ a) [] c p q = none-greater c q
 greater-trans (x ∷ a) (y ∷ b) [] p q = longer-greater x a
 greater-trans (x ∷ a) (y ∷ b) (z ∷ c) p q =
     elim (head-or-tail x y a b p) [
-      | inl h ↦ elim (head-or-tail y z b c q) [ inl g ↦ by-head x z a c (omega arith) | inr g ↦ by-head x z a c (omega (arith, g .0)) ]
+      | inl h ↦ elim (head-or-tail y z b c q) [
+        | inl g ↦ by-head x z a c (omega arith)
+        | inr g ↦ by-head x z a c
+            (omega (arith, g .0))
+      ]
       | inr h ↦
           elim (head-or-tail y z b c q) [
             | inl g ↦ by-head x z a c (omega (arith, h .0))
@@ -117,7 +121,8 @@ weight-greater (x ∷ a) (y ∷ b) e ha hb p =
 less : (x y : ℕ) → (x ≡ y → ⊥) → (y < x → ⊥) → x < y
 less x y n l =
     cases (ltb x y) (λ h. ltb-true x y h)
-    (λ h. cases (ltb y x) (λ g. absurd (l (ltb-true y x g))) (λ g. absurd (n (between (ltb-false y x g) (ltb-false x y h)))))
+    (λ h. cases (ltb y x) (λ g. absurd (l (ltb-true y x g)))
+    (λ g. absurd (n (between (ltb-false y x g) (ltb-false x y h)))))
   where
     between : x ≤ y → y ≤ x → x ≡ y
     between p q = omega arith
@@ -136,7 +141,8 @@ not-greater (x ∷ a) (y ∷ b) e p =
       | inl q ↦ inl (by-tail y x b a (sym heads) q)
       | inr q ↦ inr (cc)
     ])
-    (λ h. inl (by-head y x b a (less x y (eqb-false x y h) (λ g. clash (greater (x ∷ a) (y ∷ b)) (by-head x y a b g) p))))
+    (λ h. inl (by-head y x b a (less x y (eqb-false x y h)
+    (λ g. clash (greater (x ∷ a) (y ∷ b)) (by-head x y a b g) p))))
 
 pub greater-weight : (a b : List ℕ) → length a ≡ length b → Bytes a → Bytes b → greater a b ≡ ltb (weight b) (weight a)
 greater-weight a b e ha hb =
@@ -144,5 +150,9 @@ greater-weight a b e ha hb =
     (λ p. p ∙ sym (lt-ltb (weight b) (weight a) (weight-greater a b e ha hb p)))
     (λ p.
     let most : weight a ≤ weight b =
-    elim (not-greater a b e p) [ inl q ↦ le-of-lt (weight-greater b a (sym e) hb ha q) | inr q ↦ rw q (le-refl (weight b)) ] in
+    elim (not-greater a b e p) [
+      | inl q ↦ le-of-lt (weight-greater b a (sym e) hb ha q)
+      | inr q ↦ rw q
+          (le-refl (weight b))
+    ] in
     p ∙ sym (le-ltb (weight b) (weight a) most))

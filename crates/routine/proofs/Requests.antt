@@ -8,7 +8,7 @@ use Rattle.refusal.specs.Numbers.{challengeNotGreater, tokenDiffers, lengthOrTo
 use Rattle.refusal.specs.declared.Answer.{Answer}
 use Rattle.refusal.specs.declared.Answer.the-variants.{Done}
 use Rattle.notions.proofs.Tests.{neither}
-use Rattle.sha256.specs.declared.Digest.{Digest}
+use Rattle.sha256.specs.declared.Bytes32.{Bytes32}
 use Rattle.sha256.specs.Promises.{Gives}
 use Rattle.sha256.proofs.Laws.{gives-bytes}
 use Rattle.sha256.proofs.Answers.{gives-given, gives-refused}
@@ -19,11 +19,11 @@ use Rattle.routine.specs.Strings.{greater, same}
 use Rattle.routine.specs.Routine.{token, oneTimeKey, replyTo, reply, requestCheck}
 use Rattle.routine.specs.Promises.{Tokens, RepliesTo, Replies, Authorises}
 
-pub token-made : (k challenge : List ℕ) (r : Digest) → Macs k challenge r → Tokens k challenge r
+pub token-made : (k challenge : List ℕ) (r : Bytes32) → Macs k challenge r → Tokens k challenge r
 unfolding token
 token-made k challenge r p = p
 
-pub reply-to-made : (k t region : List ℕ) (o r : Digest) → (long k || long t || long region) ≡ false
+pub reply-to-made : (k t region : List ℕ) (o r : Bytes32) → (long k || long t || long region) ≡ false
     → Macs k t o → Macs (o .bytes) region r → RepliesTo k t region r
 unfolding replyTo oneTimeKey
 reply-to-made k t region o r h po pr =
@@ -35,10 +35,11 @@ reply-to-made k t region o r h po pr =
     gives-given h refl (subst (λ (x : Bool). Gives x (hmac (hmac k t) region) r) s er)
 
 module _ (k challenge region : List ℕ) where
-  pub reply-refused : (r : Digest) → (long k || long challenge) ≡ true → Gives true [] r → Replies k challenge region r
+  pub reply-refused : (r : Bytes32) → (long k || long challenge) ≡ true → Gives true [] r → Replies k challenge region r
   reply-refused r h p = gives-refused (simp h) p
 
-  pub reply-made : (t r : Digest) → (long k || long challenge) ≡ false → Tokens k challenge t → RepliesTo k (t .bytes) region r
+  pub reply-made : (t r : Bytes32) → (long k || long challenge) ≡ false → Tokens k challenge t
+      → RepliesTo k (t .bytes) region r
       → Replies k challenge region r
   unfolding reply token
   reply-made t r h pt pr =
@@ -62,7 +63,7 @@ module _ (k challenge received counter : List ℕ) where
     unfolding requestCheck
     refuses-old r g e = record { answered = e ∙ simp (h, g) }
 
-    module _ (g : greater challenge counter ≡ true) (t : Digest) (p : Tokens k challenge t) where
+    module _ (g : greater challenge counter ≡ true) (t : Bytes32) (p : Tokens k challenge t) where
       made : t .bytes ≡ token k challenge
       made = gives-bytes p h
 

@@ -42,7 +42,8 @@ gathered d x y =
     cases (eqb x y)
     (λ q.
     let xy : x ≡ y = eqb-true x y q in
-    simp (p, q) (eq-eqb _ 0 (ap (λ (n : ℕ). bitOr n (bitXor x y)) d0 ∙ or-zero-l (bitXor x y) ∙ ap (λ (n : ℕ). bitXor n y) xy ∙ xor-self y)))
+    simp (p, q) (eq-eqb _ 0 (ap (λ (n : ℕ). bitOr n (bitXor x y)) d0 ∙ or-zero-l (bitXor x y)
+    ∙ ap (λ (n : ℕ). bitXor n y) xy ∙ xor-self y)))
     (λ q. simp (p, q) (ne-eqb _ 0 (λ e. false≢true (sym q ∙ eq-eqb x y (xor-zero x y (or-zero d (bitXor x y) e .1)))))))
     (λ p. simp p (ne-eqb _ 0 (λ e. false≢true (sym p ∙ eq-eqb d 0 (or-zero d (bitXor x y) e .0)))))
 
@@ -54,7 +55,8 @@ same-cons : (x y : ℕ) (a b : List ℕ) → same (x ∷ a) (y ∷ b) ≡ (eqb x
 unfolding same
 same-cons x y a b = refl
 
-pub same-more : (a b : List ℕ) (d i : ℕ) → i < length a → i < length b → same a b ≡ (eqb d 0 && same (drop i a) (drop i b))
+pub same-more : (a b : List ℕ) (d i : ℕ) → i < length a → i < length b
+    → same a b ≡ (eqb d 0 && same (drop i a) (drop i b))
     → same a b ≡ (eqb (bitOr d (bitXor (getD a i 0) (getD b i 0))) 0 && same (drop (i + 1) a) (drop (i + 1) b))
 same-more a b d i ha hb e =
     let x : ℕ = getD a i 0 in
@@ -63,7 +65,8 @@ same-more a b d i ha hb e =
     let v = drop-cons b i 0 hb in
     rw (add-one, gathered d x y, and-assoc) (cc (same-cons x y (drop (suc i) a) (drop (suc i) b)))
 
-pub same-whole : (a b : List ℕ) (d i : ℕ) → i ≡ length a → i ≡ length b → same a b ≡ (eqb d 0 && same (drop i a) (drop i b)) → eqb d 0 ≡ same a b
+pub same-whole : (a b : List ℕ) (d i : ℕ) → i ≡ length a → i ≡ length b
+    → same a b ≡ (eqb d 0 && same (drop i a) (drop i b)) → eqb d 0 ≡ same a b
 unfolding same
 same-whole a b d i ea eb e =
     let p : drop i a ≡ [] = ap (λ (n : ℕ). drop n a) ea ∙ drop-length a in
@@ -89,7 +92,8 @@ module _ (a b : List ℕ) (i : ℕ) (ha : i < length a) (e : greater a b ≡ gre
   unfolding greater
   greater-differ hb h = sym (e ∙ simp (drop-cons a i 0 ha, drop-cons b i 0 hb, ne-eqb _ _ h))
 
-pub greater-none : (a b : List ℕ) (i : ℕ) → i ≡ length a → greater a b ≡ greater (drop i a) (drop i b) → false ≡ greater a b
+pub greater-none : (a b : List ℕ) (i : ℕ) → i ≡ length a → greater a b ≡ greater (drop i a) (drop i b)
+    → false ≡ greater a b
 unfolding greater
 greater-none a b i ea e =
     let p : drop i a ≡ [] = ap (λ (n : ℕ). drop n a) ea ∙ drop-length a in

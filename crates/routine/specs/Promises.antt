@@ -1,5 +1,5 @@
--- What the functions on plain slices promise, for all inputs. HMAC takes a key and a message of 0 to 65,536 bytes each, so a longer
--- string is refused with 12; on a board and at the station none is. Assumes nothing.
+-- What the functions on plain slices promise, for all inputs. HMAC takes a key and a message of 0 to 65,536 bytes each,
+-- so a longer string is refused with 12; on a board and at the station none is. Assumes nothing.
 use mathlib.Core.Path.{_≡_}
 use mathlib.Core.Bool.{Bool, _||_}
 use mathlib.Core.List.{List}
@@ -8,7 +8,7 @@ use Rattle.notions.specs.Choice.{pick}
 use Rattle.refusal.specs.Answers.{row, refusedAt}
 use Rattle.refusal.specs.Numbers.{lengthOrTotal}
 use Rattle.refusal.specs.declared.Answer.{Answer}
-use Rattle.sha256.specs.declared.Digest.{Digest}
+use Rattle.sha256.specs.declared.Bytes32.{Bytes32}
 use Rattle.sha256.specs.Promises.{Gives}
 use Rattle.hmac.specs.Promises.{long}
 use Rattle.routine.specs.Strings.{greater, same}
@@ -22,15 +22,15 @@ abbrev pub Equals : List ℕ → List ℕ → Bool → Type 0
 Equals a b r = r ≡ same a b
 
 -- `token`
-abbrev pub Tokens : List ℕ → List ℕ → Digest → Type 0
+abbrev pub Tokens : List ℕ → List ℕ → Bytes32 → Type 0
 Tokens k challenge r = Gives (long k || long challenge) (token k challenge) r
 
 -- `reply_to`
-abbrev pub RepliesTo : List ℕ → List ℕ → List ℕ → Digest → Type 0
+abbrev pub RepliesTo : List ℕ → List ℕ → List ℕ → Bytes32 → Type 0
 RepliesTo k t region r = Gives (long k || long t || long region) (replyTo k t region) r
 
 -- `reply`
-abbrev pub Replies : List ℕ → List ℕ → List ℕ → Digest → Type 0
+abbrev pub Replies : List ℕ → List ℕ → List ℕ → Bytes32 → Type 0
 Replies k challenge region r = Gives (long k || long challenge || long region) (reply k challenge region) r
 
 -- `authorise`: steps 1 and 2

@@ -10,6 +10,13 @@ use Rattle.refusal.specs.declared.Answer.the-variants.{Done}
 use Rattle.hmac.specs.Hmac.{hmac}
 use Rattle.routine.specs.Strings.{greater, same}
 
+-- a key is 64 bytes; a challenge, a token and a reply are strings of 32
+abbrev pub keyBytes : ℕ
+keyBytes = 64
+
+abbrev pub stringBytes : ℕ
+stringBytes = 32
+
 -- step 2: T = HMAC(K, challenge)
 unfoldable pub token : List ℕ → List ℕ → List ℕ
 token k challenge = hmac k challenge

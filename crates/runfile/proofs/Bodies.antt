@@ -1,5 +1,5 @@
 -- The bodies of a file, on plain variables: the checks one after another, and the run. Assumes nothing.
-use mathlib.Core.Path.{_≡_, sym, subst, _∙_}
+use mathlib.Core.Path.{_≡_, ap, sym, _∙_}
 use mathlib.Core.List.{List}
 use Prim.Native.Nat.{ℕ, _*_, _≤_}
 use lib.ListN.{length}
@@ -23,10 +23,11 @@ use Rattle.traces.specs.Promises.{Fits}
 use Rattle.monitor.specs.Promises.{Runs}
 use Rattle.traces.proofs.Checks.{trace-passed}
 use Rattle.monitor.proofs.Calls.{run-passes}
-use Rattle.runfile.specs.Segments.{segmentCheck, described}
+use Rattle.file_segments.specs.Segments.{segments, segmentCheck, image, described}
+use Rattle.file_segments.specs.Promises.{Fills}
 use Rattle.runfile.specs.Promises.{bodiesCheck}
 use Rattle.runfile.specs.Inner.{JudgesBodies}
-use Rattle.runfile.proofs.Described.{length-described}
+use Rattle.file_segments.proofs.Described.{length-described}
 
 -- ---- the segments, and then the trace
 
@@ -49,7 +50,6 @@ module _ (layout body trace memory room : List ℕ) where
     pub check : bodiesCheck layout body trace memory room ≡ Done
     pub read : l ≡ layoutOf layout
     pub long : length memory ≡ memoryBytes
-    pub segmented : segmentCheck body ≡ Done
     pub roomy : answerSize * count trace ≤ length room
 
   pub passed : (l : Layout) → Admits memory layout (rest body trace (length room)) (checked.Good l) → Passed l
@@ -58,14 +58,15 @@ module _ (layout body trace memory room : List ℕ) where
       let g = admitted-good memory layout (rest body trace (length room)) l e in
       let p = call-passed memory layout (rest body trace (length room)) (g .0) in
       let q = both-done (segmentCheck body) (traceCheck trace (length room)) (p .2) in
-      record { check = g .0; read = g .1; long = p .0; segmented = q .0; roomy = trace-passed trace (length room) (q .1) .roomy }
+      record { check = g .0; read = g .1; long = p .0; roomy = trace-passed trace (length room) (q .1) .roomy }
 
   -- the run on the memory that was filled: it is not refused
-  pub judged : (l : Layout) (memory₁ memory′ room′ : List ℕ) (r : Traced) → Passed l → memory₁ ≡ described body
+  pub judged : (l : Layout) (memory₁ memory′ room′ : List ℕ) (r : Traced) → Passed l → Fills body memory memory₁
       → Runs l trace memory₁ room memory′ room′ r → JudgesBodies layout body trace memory room memory′ room′ r
-  judged l memory₁ memory′ room′ r p e f =
-      let c = run-passes trace (described body) (length room) (length-described body (p .segmented)) (p .roomy) in
-      let q = subst (λ (k : Layout). Runs k trace (described body) room memory′ room′ r) (p .read) (subst (λ (m : List ℕ). Runs l trace m room memory′ room′ r) e f) in
+  judged l memory₁ memory′ room′ r p f d =
+      let filled : memory₁ ≡ described body = f ∙ ap (λ (n : ℕ). image n body (segments body)) (p .long) in
+      let c = run-passes trace (described body) (length room) (length-described body) (p .roomy) in
+      let q : Runs (layoutOf layout) trace (described body) room memory′ room′ r = rw (filled, p .read) at d in
       record {
         answered = simp (p .check) (simp c at (q .answered));
         memory-left = simp (p .check) (simp c at (q .memory-left));

@@ -1,5 +1,5 @@
 -- The laws of the hash, for readers and for the crates above. Assumes nothing.
-use mathlib.Core.Path.{_≡_, refl, sym, ap, subst, _∙_}
+use mathlib.Core.Path.{_≡_, refl, ap, subst, _∙_}
 use mathlib.Core.Bool.{Bool, false}
 use mathlib.Core.List.{List, _++_}
 use Prim.Native.Nat.{ℕ, _+_, _^_, _≤_}
@@ -7,23 +7,20 @@ use native.Mathlib.Omega.{arith}
 use borrow.Author.Tests.{le-ltb, lt-leb}
 use lib.ListN.{length, length-append}
 use Rattle.refusal.specs.Answers.{row, done}
-use Rattle.sha256_block.specs.Words.{bytes}
 use Rattle.sha256_block.specs.Constants.{H}
-use Rattle.sha256_block.specs.Block.{whole}
+use Rattle.sha256_block.specs.Block.{whole, rest}
 use Rattle.sha256.specs.declared.Sha.{Sha}
 use Rattle.sha256.specs.declared.Taken.{Taken}
-use Rattle.sha256.specs.declared.Digest.{Digest}
-use Rattle.sha256.specs.Hash.{padding, out, sha256}
-use Rattle.sha256.specs.Running.{filled, rest, started, taken, digest}
-use Rattle.sha256.specs.Promises.{limit, over, Gives, Starts, TakesIn, Finishes, Digests, Hashes}
+use Rattle.sha256.specs.declared.Bytes32.{Bytes32}
+use Rattle.sha256_digest.specs.Hash.{padding, out, sha256}
+use Rattle.sha256_digest.specs.Promises.{Digests, DigestsFrom}
+use Rattle.sha256_digest.proofs.Laws.{hashed}
+use Rattle.sha256.specs.Running.{filled, started, taken, digest}
+use Rattle.sha256.specs.Promises.{limit, over, Gives, Starts, TakesIn, Finishes, Hashes}
 use Rattle.sha256.specs.Settled.{gives-settled, takes-in-settled}
-use Rattle.sha256.proofs.Running.{whole-rest, filled-taken, taken-twice}
+use Rattle.sha256.proofs.Running.{filled-taken, taken-twice}
 
 -- ---- the definitions
-
-pub length-sha256 : (m : List ℕ) → length (sha256 m) ≡ 32
-unfolding sha256 out bytes
-length-sha256 m = refl
 
 pub started-total : started .total ≡ 0
 unfolding started
@@ -36,11 +33,6 @@ taken-total s x = refl
 pub length-started : length (started .block) ≡ 64
 unfolding started
 length-started = refl
-
--- the hash value after a message's whole blocks, and what they leave of it
-pub hashed : (m w r : List ℕ) → w ≡ whole H m → r ≡ out (whole w (rest m ++ padding (length m))) 8 → r ≡ sha256 m
-unfolding sha256
-hashed m w r ew er = er ∙ ap (λ (u : List ℕ). out (whole u (rest m ++ padding (length m))) 8) ew ∙ ap (λ (u : List ℕ). out u 8) (sym (whole-rest H m (padding (length m))))
 
 words-started : (m : List ℕ) → taken started m .words ≡ whole H m
 unfolding taken started
@@ -68,7 +60,11 @@ over-not n h = le-ltb limit n h
 pub within-standard : (m : List ℕ) {r : List ℕ} → Digests m r → length m ≤ limit → r ≡ sha256 m
 within-standard m p h = rw (lt-leb (2 ^ 61) (length m) (omega (arith, h))) at p
 
-pub gives-bytes : {t : Bool} {b : List ℕ} {r : Digest} → Gives t b r → t ≡ false → r .bytes ≡ b
+pub digested : (s : Sha) {r : List ℕ} → DigestsFrom (s .words) (s .block) (s .total) r → s .total ≤ limit → r ≡ digest s
+unfolding digest
+digested s p h = rw (lt-leb (2 ^ 61) (s .total) (omega (arith, h))) at p
+
+pub gives-bytes : {t : Bool} {b : List ℕ} {r : Bytes32} → Gives t b r → t ≡ false → r .bytes ≡ b
 gives-bytes p e = rw e at (p .given)
 
 module _ {s : Sha} {x : List ℕ} {r : Taken} (p : TakesIn s x r) (h : s .total + length x ≤ limit) where
@@ -79,7 +75,8 @@ module _ {s : Sha} {x : List ℕ} {r : Taken} (p : TakesIn s x r) (h : s .total 
   takes-in-row = rw (over-not (s .total + length x) h) at (p .answered)
 
 -- taking a in and then b is taking a ++ b in
-pub takes-in-twice : {s : Sha} {a b : List ℕ} {r q u : Taken} → length (s .block) ≡ 64 → s .total + length (a ++ b) ≤ limit
+pub takes-in-twice : {s : Sha} {a b : List ℕ} {r q u : Taken} → length (s .block) ≡ 64
+    → s .total + length (a ++ b) ≤ limit
     → TakesIn s a r → TakesIn (r .state) b q → TakesIn s (a ++ b) u → q ≡ u
 takes-in-twice {s} {a} {b} {r} {q} {u} el h p p′ z =
     let l : length (a ++ b) ≡ length a + length b = length-append a b in
@@ -91,11 +88,13 @@ takes-in-twice {s} {a} {b} {r} {q} {u} el h p p′ z =
     z
 
 -- start, take m in, finish: what `hash` answers
-pub hashes-running : {m : List ℕ} {s : Sha} {r : Taken} {d e : Digest} → length m ≤ limit
+pub hashes-running : {m : List ℕ} {s : Sha} {r : Taken} {d e : Bytes32} → length m ≤ limit
     → Starts s → TakesIn s m r → Finishes (r .state) d → Hashes m e → d ≡ e
 hashes-running {m} {s} {r} {d} {e} h p q f z =
     let z₀ : s .total ≡ 0 = ap (λ (t : Sha). t .total) p ∙ started-total in
     let es : r .state ≡ taken started m = takes-in-state q (omega arith) ∙ ap (λ (t : Sha). taken t m) p in
-    let en : r .state .total ≡ length m = omega (arith, ap (λ (t : Sha). t .total) es ∙ taken-total started m, started-total) in
+    let en : r .state .total ≡ length m = omega
+    (arith, ap (λ (t : Sha). t .total) es ∙ taken-total started m, started-total) in
     let ed : digest (r .state) ≡ sha256 m = ap digest es ∙ digest-taken m in
-    gives-settled d e (subst (λ (b : List ℕ). Gives (over (length m)) b d) ed (subst (λ (n : ℕ). Gives (over n) (digest (r .state)) d) en f)) z
+    gives-settled d e (subst (λ (b : List ℕ). Gives (over (length m)) b d) ed
+    (subst (λ (n : ℕ). Gives (over n) (digest (r .state)) d) en f)) z

@@ -1,7 +1,4 @@
-pub mod Lists
 pub mod Filling
 pub mod Running
-pub mod Padding
 pub mod Answers
 pub mod Laws
-pub mod Bytes

@@ -1,70 +1,16 @@
 -- Taking bytes in: by a part of a block, by blocks, in one go or in two. Assumes nothing.
 use mathlib.Core.Path.{_≡_, sym, ap, _∙_}
 use mathlib.Core.List.{List, [], _++_, append-assoc, append-nil}
-use Prim.Native.Nat.{ℕ, _+_, _-_, _*_, _/_, _%_, _≤_, _<_}
+use Prim.Native.Nat.{ℕ, _+_, _-_, _%_, _≤_, _<_}
 use native.Mathlib.Omega.{arith}
 use lib.ListN.{length, take, drop, replicate, length-append, length-drop, take-append-drop, drop-of-length-le}
 use lib.Seq.{paste, take-all, take-length, take-at, drop-append-add, length-take-le}
-use Rattle.sha256_block.specs.Block.{whole}
+use Rattle.sha256_block.specs.Block.{whole, rest}
 use Rattle.sha256_block.proofs.Laws.{whole-join, whole-short}
+use Rattle.sha256_block.proofs.Rest.{length-rest, rest-join, rest-short, whole-rest, rest-rest}
+use Rattle.sha256_digest.proofs.Lists.{drop-replicate}
 use Rattle.sha256.specs.declared.Sha.{Sha}
-use Rattle.sha256.specs.Running.{filled, blockOf, rest, taken}
-use Rattle.sha256.proofs.Lists.{drop-replicate}
-
--- ---- what is left behind whole blocks
-
-pub length-rest : (y : List ℕ) → length (rest y) ≡ length y % 64
-length-rest y = rw length-drop (omega arith)
-
--- the part of a slice that the code names so
-pub left-behind : (y : List ℕ) → take (length y - (length y - length y % 64)) (drop (length y - length y % 64) y) ≡ rest y
-left-behind y =
-    let e : length y - length y % 64 ≡ length y / 64 * 64 = omega arith in
-    ap (λ (n : ℕ). take (length y - n) (drop n y)) e ∙ take-all (length y - length y / 64 * 64) (rest y) (rw length-drop (omega arith))
-
-rest-join : (a b : List ℕ) → length a % 64 ≡ 0 → rest (a ++ b) ≡ rest b
-rest-join a b h =
-    let l : length (a ++ b) ≡ length a + length b = length-append a b in
-    let e : length (a ++ b) / 64 * 64 ≡ length a + length b / 64 * 64 = omega arith in
-    ap (λ (n : ℕ). drop n (a ++ b)) e ∙ drop-append-add a b (length b / 64 * 64)
-
-rest-short : (y : List ℕ) → length y < 64 → rest y ≡ y
-rest-short y h =
-    let e : length y / 64 * 64 ≡ 0 = omega arith in
-    ap (λ (n : ℕ). drop n y) e
-
--- the whole blocks of y
-fore : List ℕ → List ℕ
-fore y = take (length y / 64 * 64) y
-
-fore-rest : (y : List ℕ) → fore y ++ rest y ≡ y
-unfolding fore
-fore-rest y = take-append-drop (length y / 64 * 64) y
-
-length-fore : (y : List ℕ) → length (fore y) % 64 ≡ 0
-unfolding fore
-length-fore y =
-    let l : length (take (length y / 64 * 64) y) ≡ length y / 64 * 64 = length-take-le (length y / 64 * 64) y (omega arith) in
-    omega arith
-
-whole-fore : (s y : List ℕ) → whole s y ≡ whole s (fore y)
-whole-fore s y =
-    let h : length (rest y) < 64 = omega (arith, length-rest y) in
-    ap (λ (z : List ℕ). whole s z) (sym (fore-rest y)) ∙ whole-join s (fore y) (rest y) (length-fore y) ∙ whole-short (whole s (fore y)) (rest y) h
-
--- bytes behind y meet what y's whole blocks leave
-pub whole-rest : (s y z : List ℕ) → whole s (y ++ z) ≡ whole (whole s y) (rest y ++ z)
-whole-rest s y z =
-    ap (λ (u : List ℕ). whole s (u ++ z)) (sym (fore-rest y))
-    ∙ ap (λ (u : List ℕ). whole s u) (append-assoc (fore y) (rest y) z)
-    ∙ whole-join s (fore y) (rest y ++ z) (length-fore y)
-    ∙ ap (λ (u : List ℕ). whole u (rest y ++ z)) (sym (whole-fore s y))
-
-rest-rest : (y z : List ℕ) → rest (y ++ z) ≡ rest (rest y ++ z)
-rest-rest y z =
-    ap (λ (u : List ℕ). rest (u ++ z)) (sym (fore-rest y))
-    ∙ ap rest (append-assoc (fore y) (rest y) z)
-    ∙ rest-join (fore y) (rest y ++ z) (length-fore y)
+use Rattle.sha256.specs.Running.{filled, blockOf, taken}
 
 -- ---- a block
 
@@ -84,13 +30,15 @@ block-cut y h =
     cc (take-all 64 (take 64 y) (omega arith))
 
 -- x stored behind the bytes y at the start of a block
-pub block-joined : (y x : List ℕ) (n : ℕ) → length y ≡ n → n + length x ≤ 64 → paste (blockOf y) n x (length x) ≡ blockOf (y ++ x)
+pub block-joined : (y x : List ℕ) (n : ℕ) → length y ≡ n → n + length x ≤ 64
+    → paste (blockOf y) n x (length x) ≡ blockOf (y ++ x)
 block-joined y x n e h =
     let l : length (y ++ x) ≡ length y + length x = length-append y x in
     let b : blockOf y ≡ y ++ replicate (64 - length y) 0 = block-short y (omega arith) in
     let t : take n (blockOf y) ≡ y = ap (λ (z : List ℕ). take n z) b ∙ take-at y (replicate (64 - length y) 0) n e in
     let k : n + length x ≡ length y + length x = omega arith in
-    let d : drop (n + length x) (blockOf y) ≡ drop (length x) (replicate (64 - length y) 0) = cc (drop-append-add y (replicate (64 - length y) 0) (length x)) in
+    let d : drop (n + length x) (blockOf y) ≡ drop (length x) (replicate (64 - length y) 0) =
+    cc (drop-append-add y (replicate (64 - length y) 0) (length x)) in
     let r : 64 - length y - length x ≡ 64 - length (y ++ x) = omega arith in
     cc (take-length x, drop-replicate (length x) (64 - length y) 0 (omega arith), block-short (y ++ x) (omega arith))
 
@@ -104,15 +52,15 @@ module _ (s : Sha) (el : length (s .block) ≡ 64) where
   length-with x = length-append (filled s) x ∙ ap (λ (n : ℕ). n + length x) length-filled
 
   -- too few bytes to fill the block
-  pub taken-short : (x b : List ℕ) → s .total % 64 + length x < 64 → b ≡ blockOf (filled s ++ x)
+  pub taken-within : (x b : List ℕ) → s .total % 64 + length x < 64 → b ≡ blockOf (filled s ++ x)
       → record { words = s .words; block = b; total = s .total + length x } ≡ taken s x
   unfolding taken
-  taken-short x b h e =
+  taken-within x b h e =
       let l : length (filled s ++ x) < 64 = omega (arith, length-with x) in
       cc (whole-short (s .words) (filled s ++ x) l, rest-short (filled s ++ x) l)
 
   -- enough bytes to fill it: f is the block with the first of them, z are the others, and v is what they leave
-  pub taken-long : (x f w b z v : List ℕ) → 64 ≤ s .total % 64 + length x
+  pub taken-filling : (x f w b z v : List ℕ) → 64 ≤ s .total % 64 + length x
       → f ≡ paste (s .block) (s .total % 64) (take (64 - s .total % 64) x) (length (take (64 - s .total % 64) x))
       → z ≡ drop (64 - s .total % 64) x
       → w ≡ whole (whole (s .words) f) z
@@ -120,7 +68,7 @@ module _ (s : Sha) (el : length (s .block) ≡ 64) where
       → b ≡ blockOf v
       → record { words = w; block = b; total = s .total + length x } ≡ taken s x
   unfolding taken
-  taken-long x f w b z v h ef ez ew ev eb =
+  taken-filling x f w b z v h ef ez ew ev eb =
       let a : ℕ = s .total % 64 in
       let o : ℕ = 64 - a in
       let k : ℕ = length x - (a + length x) % 64 in
@@ -137,7 +85,8 @@ module _ (s : Sha) (el : length (s .block) ≡ 64) where
       let fg : f ≡ g = cc (take-length (take o x), append-nil g) in
       let ey : y ≡ g ++ z = cc (append-assoc (filled s) (take o x) z, take-append-drop o x) in
       let ep : y ≡ p ++ drop k x = cc (append-assoc (filled s) (take k x) (drop k x), take-append-drop k x) in
-      let ew′ : w ≡ whole (s .words) y = ew ∙ ap (λ (l : List ℕ). whole (whole (s .words) l) z) fg ∙ sym (whole-join (s .words) g z lg) ∙ ap (λ (l : List ℕ). whole (s .words) l) (sym ey) in
+      let ew′ : w ≡ whole (s .words) y = ew ∙ ap (λ (l : List ℕ). whole (whole (s .words) l) z) fg
+      ∙ sym (whole-join (s .words) g z lg) ∙ ap (λ (l : List ℕ). whole (s .words) l) (sym ey) in
       let er : rest y ≡ v = ap rest ep ∙ rest-join p (drop k x) lp ∙ rest-short (drop k x) lv ∙ sym ev in
       let eb′ : b ≡ blockOf (rest y) = eb ∙ ap blockOf (sym er) in
       cc
@@ -149,7 +98,8 @@ module _ (s : Sha) (el : length (s .block) ≡ 64) where
       let y : List ℕ = filled s ++ x in
       let l : length (rest y) ≡ length y % 64 = length-rest y in
       ap (λ (b : List ℕ). take ((s .total + length x) % 64) b) (block-short (rest y) (omega arith))
-      ∙ take-at (rest y) (replicate (64 - length (rest y)) 0) ((s .total + length x) % 64) (omega (arith, length-with x))
+      ∙ take-at (rest y) (replicate (64 - length (rest y)) 0) ((s .total + length x) % 64)
+      (omega (arith, length-with x))
 
 -- taking a in and then b is taking a ++ b in
 pub taken-twice : (s : Sha) (a b : List ℕ) → length (s .block) ≡ 64 → taken (taken s a) b ≡ taken s (a ++ b)

@@ -1,4 +1,3 @@
-pub mod Hash
 pub mod Running
 pub mod Promises
 pub mod Settled

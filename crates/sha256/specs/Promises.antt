@@ -1,19 +1,20 @@
--- What the public functions promise, for all inputs. `Starts`, `TakesIn`, `Finishes`, `IsBlock`, `Digests` and `Hashes` are the contracts of the
--- functions so named; `Gives` is the shape of every answer of 32 bytes, here and in the crates above.
+-- What the public functions promise, for all inputs. `Starts`, `TakesIn`, `Finishes`, `IsBlock` and `Hashes`
+-- are the contracts of the functions so named; `Gives` is the shape of every answer of 32 bytes, here and in the crates
+-- above.
 -- Assumes nothing.
 use mathlib.Core.Path.{_≡_}
 use mathlib.Core.Bool.{Bool}
 use mathlib.Core.List.{List}
-use Prim.Native.Nat.{ℕ, _+_, _^_}
-use lib.Dec.{ltb, leb}
+use Prim.Native.Nat.{ℕ, _+_}
+use lib.Dec.{ltb}
 use lib.ListN.{length, replicate}
 use Rattle.refusal.specs.Numbers.{lengthOrTotal}
 use Rattle.notions.specs.Choice.{pick}
 use Rattle.refusal.specs.Answers.{row, refusedIf}
 use Rattle.sha256.specs.declared.Sha.{Sha}
 use Rattle.sha256.specs.declared.Taken.{Taken}
-use Rattle.sha256.specs.declared.Digest.{Digest}
-use Rattle.sha256.specs.Hash.{sha256}
+use Rattle.sha256.specs.declared.Bytes32.{Bytes32}
+use Rattle.sha256_digest.specs.Hash.{sha256}
 use Rattle.sha256.specs.Running.{blockOf, started, taken, digest}
 
 -- the hash takes 0 to 131,072 bytes
@@ -25,7 +26,7 @@ abbrev pub over : ℕ → Bool
 over n = ltb limit n
 
 -- refused with 12 exactly if t holds, and then zeros; else the bytes b
-pub record Gives (t : Bool) (b : List ℕ) (r : Digest) : Type 0 where
+pub record Gives (t : Bool) (b : List ℕ) (r : Bytes32) : Type 0 where
   pub answered : row (r .answer) ≡ refusedIf t lengthOrTotal
   pub given : r .bytes ≡ pick t (replicate 32 0) b
 
@@ -33,27 +34,20 @@ pub record Gives (t : Bool) (b : List ℕ) (r : Digest) : Type 0 where
 abbrev pub Starts : Sha → Type 0
 Starts r = r ≡ started
 
--- `Sha::take_in`: refused exactly if the total with the new bytes is over the limit, and then the state is handed back as it was
+-- `Sha::take_in`: refused exactly if the total with the new bytes is over the limit, and then the state is handed back
+-- as it was
 pub record TakesIn (s : Sha) (x : List ℕ) (r : Taken) : Type 0 where
   pub answered : row (r .answer) ≡ refusedIf (over (s .total + length x)) lengthOrTotal
   pub handed : r .state ≡ pick (over (s .total + length x)) s (taken s x)
 
 -- `Sha::finish`: refused exactly if the total is over the limit
-abbrev pub Finishes : Sha → Digest → Type 0
+abbrev pub Finishes : Sha → Bytes32 → Type 0
 Finishes s r = Gives (over (s .total)) (digest s) r
 
 -- `block_of`
 abbrev pub IsBlock : List ℕ → List ℕ → Type 0
 IsBlock b r = r ≡ blockOf b
 
--- the standard has a digest of messages whose length in bits is below 2^64
-abbrev pub beyond : ℕ → Bool
-beyond n = leb (2 ^ 61) n
-
--- `digest_of`: of any message of the standard
-abbrev pub Digests : List ℕ → List ℕ → Type 0
-Digests m r = r ≡ pick (beyond (length m)) (replicate 32 0) (sha256 m)
-
 -- `hash`: refused exactly if the message is over the limit
-abbrev pub Hashes : List ℕ → Digest → Type 0
+abbrev pub Hashes : List ℕ → Bytes32 → Type 0
 Hashes m r = Gives (over (length m)) (sha256 m) r

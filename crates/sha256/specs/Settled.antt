@@ -8,14 +8,15 @@ use Rattle.refusal.specs.declared.Answer.{Answer}
 use Rattle.refusal.specs.Settled.{row-settled}
 use Rattle.sha256.specs.declared.Sha.{Sha}
 use Rattle.sha256.specs.declared.Taken.{Taken}
-use Rattle.sha256.specs.declared.Digest.{Digest}
+use Rattle.sha256.specs.declared.Bytes32.{Bytes32}
 use Rattle.sha256.specs.Promises.{Gives, Starts, TakesIn, Finishes, Hashes}
 
-pub gives-settled : {t : Bool} {b : List ℕ} (r q : Digest) → Gives t b r → Gives t b q → r ≡ q
+pub gives-settled : {t : Bool} {b : List ℕ} (r q : Bytes32) → Gives t b r → Gives t b q → r ≡ q
 gives-settled r q p p′ =
     let a : r .answer ≡ q .answer = row-settled (r .answer) (q .answer) (p .answered ∙ sym (p′ .answered)) in
     let d : r .bytes ≡ q .bytes = p .given ∙ sym (p′ .given) in
-    ap (λ (x : Answer). record { answer = x; bytes = r .bytes }) a ∙ ap (λ (x : List ℕ). record { answer = q .answer; bytes = x }) d
+    ap (λ (x : Answer). record { answer = x; bytes = r .bytes }) a
+    ∙ ap (λ (x : List ℕ). record { answer = q .answer; bytes = x }) d
 
 pub starts-settled : (r q : Sha) → Starts r → Starts q → r ≡ q
 starts-settled r q p p′ = p ∙ sym p′
@@ -24,10 +25,11 @@ pub takes-in-settled : {s : Sha} {x : List ℕ} (r q : Taken) → TakesIn s x r 
 takes-in-settled r q p p′ =
     let a : r .answer ≡ q .answer = row-settled (r .answer) (q .answer) (p .answered ∙ sym (p′ .answered)) in
     let e : r .state ≡ q .state = p .handed ∙ sym (p′ .handed) in
-    ap (λ (y : Answer). record { answer = y; state = r .state }) a ∙ ap (λ (y : Sha). record { answer = q .answer; state = y }) e
+    ap (λ (y : Answer). record { answer = y; state = r .state }) a
+    ∙ ap (λ (y : Sha). record { answer = q .answer; state = y }) e
 
-pub finishes-settled : (s : Sha) (r q : Digest) → Finishes s r → Finishes s q → r ≡ q
+pub finishes-settled : (s : Sha) (r q : Bytes32) → Finishes s r → Finishes s q → r ≡ q
 finishes-settled s r q p p′ = gives-settled r q p p′
 
-pub hashes-settled : (m : List ℕ) (r q : Digest) → Hashes m r → Hashes m q → r ≡ q
+pub hashes-settled : (m : List ℕ) (r q : Bytes32) → Hashes m r → Hashes m q → r ≡ q
 hashes-settled m r q p p′ = gives-settled r q p p′

@@ -14,7 +14,12 @@ unfolding blocks
 blocks-append s m x zero h = refl
 blocks-append s m x (suc n) h =
     let l : 64 ≤ length (drop (n * 64) m) = rw length-drop (omega arith) in
-    cc (blocks-append s m x n (omega arith), drop-append-le (n * 64) m x (omega arith), take-append-le 64 (drop (n * 64) m) x l)
+    cc (
+      blocks-append s m x n (omega arith),
+      drop-append-le (n * 64) m x (omega arith),
+      take-append-le 64
+          (drop (n * 64) m) x l,
+    )
 
 blocks-join : (s a b : List ℕ) (i j : ℕ) → length a ≡ i * 64 → blocks s (a ++ b) (i + j) ≡ blocks (blocks s a i) b j
 unfolding blocks

@@ -21,7 +21,8 @@ pub words-more : (m w : List ℕ) (i x : ℕ) → i < length w → take i w ≡ 
 words-more m w i x h inv e = cc (grown w (words m i) i x h inv, words-next m i)
 
 schedule-next : (m : List ℕ) (n : ℕ)
-    → schedule m (n + 1) ≡ schedule m n ++ (next (getD (schedule m n) (n + 14) 0) (getD (schedule m n) (n + 9) 0) (getD (schedule m n) (n + 1) 0) (getD (schedule m n) n 0) ∷ [])
+    → schedule m (n + 1) ≡ schedule m n ++ (next (getD (schedule m n) (n + 14) 0) (getD (schedule m n) (n + 9) 0)
+    (getD (schedule m n) (n + 1) 0) (getD (schedule m n) n 0) ∷ [])
 unfolding schedule
 schedule-next m n = rw (add-one, add-one)
 
@@ -33,7 +34,15 @@ schedule-more m w n x h inv e =
     let e′ : n + 1 + 16 ≡ n + 16 + 1 = omega arith in
     let p : List ℕ = take (n + 16) w in
     let at : (i : ℕ) → i < n + 16 → getD w i 0 ≡ getD p i 0 = λ i l. sym (getD-take (n + 16) w i 0 l) in
-    cc (grown w p (n + 16) x h refl, schedule-next m n, at (n + 14) (omega arith), at (n + 9) (omega arith), at (n + 1) (omega arith), at n (omega arith))
+    cc (
+      grown w p (n + 16) x h refl,
+      schedule-next m n,
+      at (n + 14) (omega arith),
+      at (n + 9) (omega arith),
+      at (n + 1)
+          (omega arith),
+      at n (omega arith),
+    )
 
 -- the same with the two words before it carried along
 pub schedule-carried : (m w : List ℕ) (n w2 w1 x : ℕ) → n + 16 < length w → take (n + 16) w ≡ schedule m n
@@ -50,7 +59,8 @@ schedule-carried m w n w2 w1 x h inv e2 e1 e =
       cc (getD-set-same w (n + 16) x 0 h),
     )
 
-pub schedule-whole : (m w : List ℕ) (t : ℕ) → t ≡ 48 → length w ≡ 64 → take (t + 16) w ≡ schedule m t → w ≡ schedule m 48
+pub schedule-whole : (m w : List ℕ) (t : ℕ) → t ≡ 48 → length w ≡ 64 → take (t + 16) w ≡ schedule m t
+    → w ≡ schedule m 48
 schedule-whole m w t e l inv =
     let e′ : t + 16 ≡ 64 = omega arith in
     cc (take-all 64 w (omega arith))
@@ -74,5 +84,6 @@ blocks-next : (s m : List ℕ) (n : ℕ) → blocks s m (n + 1) ≡ compress (bl
 unfolding blocks
 blocks-next s m n = rw add-one
 
-pub blocks-more : (s m w r : List ℕ) (n k : ℕ) → k ≡ 64 → w ≡ blocks s m n → r ≡ compress w (take k (drop (n * 64) m)) → r ≡ blocks s m (n + 1)
+pub blocks-more : (s m w r : List ℕ) (n k : ℕ) → k ≡ 64 → w ≡ blocks s m n → r ≡ compress w (take k (drop (n * 64) m))
+    → r ≡ blocks s m (n + 1)
 blocks-more s m w r n k ek ew er = cc (blocks-next s m n)

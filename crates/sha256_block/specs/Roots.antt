@@ -1,5 +1,5 @@
--- Where the constants come from (4.2.2 and 5.3.3): the first 32 bits of the fractional parts of roots of primes. The checker works it
--- out for each entry, so that no table has to be believed.
+-- Where the constants come from (4.2.2 and 5.3.3): the first 32 bits of the fractional parts of roots of primes. The
+-- checker works it out for each entry, so that no table has to be believed.
 -- Assumes nothing.
 use mathlib.Core.Path.{_≡_, refl}
 use mathlib.Core.Bool.{Bool, true, false, _&&_, not}
@@ -24,7 +24,8 @@ unfoldable pub rootBelow : ℕ → ℕ → ℕ → ℕ
 rootBelow e x zero = 0
 rootBelow e x (suc n) = pick (leb (suc n ^ e) x) (suc n) (rootBelow e x n)
 
--- w is below 2 ^ 32, and with the whole part i of p's root of degree e the root lies from i + w / 2 ^ 32 on, and before i + (w + 1) / 2 ^ 32
+-- w is below 2 ^ 32, and with the whole part i of p's root of degree e the root lies from i + w / 2 ^ 32 on, and before
+-- i + (w + 1) / 2 ^ 32
 unfoldable pub isFraction : ℕ → ℕ → ℕ → Bool
 isFraction e p w =
     let r = rootBelow e p 20 * 2 ^ 32 + w in

@@ -1,5 +1,6 @@
-// FIPS 180-4, 3.2 and 4.1.2: the sum of two words, and the functions on words.
+// FIPS 180-4, 3.2 and 4.1.2: the sum of two words, a word rotated right, and the functions on words.
 ghost use mathlib.Core.Path.{_≡_};
+ghost use Prim.Native.Nat.{_<_};
 ghost use Rattle.sha256_block.specs.Words as W;
 ghost use Rattle.sha256_block.specs.Functions as F;
 
@@ -7,6 +8,13 @@ pub fn add(x: u32, y: u32) -> u32
     ensures { λ r. ⌜ r ≡ W.add x y ⌝ }
 {
     std::num::wrapping_add_u32(x, y)
+}
+
+fn rotr(n: u32, x: u32) -> u32
+    requires { ⌜ (0 < n) × (n < 32) ⌝ }
+    ensures { λ r. ⌜ r ≡ W.rotr n x ⌝ }
+{
+    (x >> n) | (x << (32 - n))
 }
 
 pub fn ch(x: u32, y: u32, z: u32) -> u32
@@ -24,23 +32,23 @@ pub fn maj(x: u32, y: u32, z: u32) -> u32
 pub fn big_sigma0(x: u32) -> u32
     ensures { λ r. ⌜ r ≡ F.Σ0 x ⌝ }
 {
-    ((x >> 2) | (x << 30)) ^ ((x >> 13) | (x << 19)) ^ ((x >> 22) | (x << 10))
+    rotr(2, x) ^ rotr(13, x) ^ rotr(22, x)
 }
 
 pub fn big_sigma1(x: u32) -> u32
     ensures { λ r. ⌜ r ≡ F.Σ1 x ⌝ }
 {
-    ((x >> 6) | (x << 26)) ^ ((x >> 11) | (x << 21)) ^ ((x >> 25) | (x << 7))
+    rotr(6, x) ^ rotr(11, x) ^ rotr(25, x)
 }
 
 pub fn small_sigma0(x: u32) -> u32
     ensures { λ r. ⌜ r ≡ F.σ0 x ⌝ }
 {
-    ((x >> 7) | (x << 25)) ^ ((x >> 18) | (x << 14)) ^ (x >> 3)
+    rotr(7, x) ^ rotr(18, x) ^ (x >> 3)
 }
 
 pub fn small_sigma1(x: u32) -> u32
     ensures { λ r. ⌜ r ≡ F.σ1 x ⌝ }
 {
-    ((x >> 17) | (x << 15)) ^ ((x >> 19) | (x << 13)) ^ (x >> 10)
+    rotr(17, x) ^ rotr(19, x) ^ (x >> 10)
 }

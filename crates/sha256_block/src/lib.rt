@@ -1,4 +1,5 @@
-// SHA-256's block function: FIPS 180-4, 6.2.2, over the whole blocks of some bytes. Padding and the running hash are `sha256`'s.
+// SHA-256's block function: FIPS 180-4, 6.2.2, over the whole blocks of some bytes.
+// Padding and the running hash are `sha256`'s.
 mod constants;
 mod functions;
 
@@ -12,6 +13,9 @@ ghost use Rattle.sha256_block.specs.Words as W;
 ghost use Rattle.sha256_block.specs.Constants as C;
 ghost use Rattle.sha256_block.specs.Block as B;
 ghost use Rattle.sha256_block.specs.Promises as P;
+
+// The bytes of a block.
+pub const BLOCK: usize = 64;
 
 // The eight working variables.
 pub struct Vars {
@@ -66,6 +70,7 @@ fn opening(m: &[u8]) -> [u32; 64]
 {
     let mut w = [0u32; 64];
     let mut i = 0;
+    // The first i words are those of the block.
     while i < 16 {
         w[i] = word_at(m, i * 4);
         i += 1;
@@ -73,8 +78,8 @@ fn opening(m: &[u8]) -> [u32; 64]
     w
 }
 
-// The message schedule of the block m. The last two words are carried along: read back from the array, each would keep the
-// next but one waiting.
+// The message schedule of the block m. The last two words are carried along: read back from the array, each would
+// keep the next but one waiting.
 fn schedule(m: &[u8]) -> [u32; 64]
     requires { ⌜ length (now m) ≡ 64 ⌝ }
     ensures { λ r. ⌜ r ≡ B.schedule (now (m .entry)) 48 ⌝ }
@@ -83,6 +88,7 @@ fn schedule(m: &[u8]) -> [u32; 64]
     let mut w2 = w[14];
     let mut w1 = w[15];
     let mut t = 0;
+    // The first t + 16 words are the schedule's, and w2 and w1 are the last two of them.
     while t < 48 {
         let next = next_word(w2, w[t + 9], w[t + 1], w[t]);
         w[t + 16] = next;
@@ -128,6 +134,7 @@ fn rounds(k: &[u32; 64], w: &[u32; 64], v: Vars) -> Vars
 {
     let mut u = v;
     let mut t = 0;
+    // u is v after the first t rounds, and t is a multiple of 4.
     while t < 64 {
         u = round(k[t], w[t], u);
         u = round(k[t + 1], w[t + 1], u);
@@ -187,11 +194,12 @@ pub fn blocks(words: [u32; 8], bytes: &[u8]) -> [u32; 8]
     ensures { λ r. ⌜ P.HashesBlocks words (now (bytes .entry)) r ⌝ }
 {
     let k = K;
-    let n = bytes.len() / 64;
+    let n = bytes.len() / BLOCK;
     let mut w = words;
     let mut i = 0;
+    // w is the hash value after the first i blocks.
     while i < n {
-        let next = compress(&k, w, &bytes[i * 64..i * 64 + 64]);
+        let next = compress(&k, w, &bytes[i * BLOCK..i * BLOCK + BLOCK]);
         w = next;
         i += 1;
     }

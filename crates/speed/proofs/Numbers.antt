@@ -14,7 +14,7 @@ use Rattle.monitor.specs.Runs.{totals}
 use Rattle.monitor.specs.Promises.{totalsValues, tracedRow, Traces}
 use Rattle.traces.specs.Traces.{traceCheck}
 use Rattle.runfile.specs.Promises.{judgeCheck, fileTotals, Judges}
-use Rattle.speed.specs.Promises.{answerNumber, tracedNumber, NumbersAttest, NumbersTrace, Numbers}
+use Rattle.speed.specs.Promises.{answerNumber, tracedNumber, NumbersAttest, NumbersTrace, NumbersJudge}
 
 -- the number of a call's check, whatever values the call tells
 told-number : (a : Answer) (v : List ℕ) → getD (told a v) 0 0 ≡ answerNumber a
@@ -24,7 +24,8 @@ told-number (Refused x) v = refl
 begins : (r : ℕ) (x y : List ℕ) → r ≡ getD x 0 0 → x ≡ y → r ≡ getD y 0 0
 begins r x y n e = n ∙ ap (λ (z : List ℕ). getD z 0 0) e
 
-pub attest-number : (memory layout memory′ : List ℕ) (o : Answer) (r : ℕ) → Attests memory layout memory′ o → r ≡ answerNumber o
+pub attest-number : (memory layout memory′ : List ℕ) (o : Answer) (r : ℕ)
+    → Attests memory layout memory′ o → r ≡ answerNumber o
     → NumbersAttest memory layout memory′ r
 attest-number memory layout memory′ o r j n =
     record { answered = begins r (row o) _ n (j .answered); memory-left = j .memory-left }
@@ -35,17 +36,19 @@ pub trace-number : (memory layout trace room memory′ room′ : List ℕ) (o : 
 trace-number memory layout trace room memory′ room′ o r j n =
     record {
       answered = begins r (tracedRow o) _ n (j .answered)
-          ∙ told-number (callCheck memory layout (traceCheck trace (length room))) (totalsValues (totals (layoutOf layout) trace memory));
+          ∙ told-number (callCheck memory layout (traceCheck trace (length room)))
+          (totalsValues (totals (layoutOf layout) trace memory));
       memory-left = j .memory-left;
       room-left = j .room-left;
     }
 
 pub judge-number : (file memory room memory′ room′ : List ℕ) (o : Traced) (r : ℕ)
     → Judges file memory room memory′ room′ o → r ≡ tracedNumber o
-    → Numbers file memory room memory′ room′ r
+    → NumbersJudge file memory room memory′ room′ r
 judge-number file memory room memory′ room′ o r j n =
     record {
-      answered = begins r (tracedRow o) _ n (j .answered) ∙ told-number (judgeCheck file memory room) (totalsValues (fileTotals file));
+      answered = begins r (tracedRow o) _ n (j .answered)
+          ∙ told-number (judgeCheck file memory room) (totalsValues (fileTotals file));
       memory-left = j .memory-left;
       room-left = j .room-left;
     }

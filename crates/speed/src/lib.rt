@@ -1,4 +1,5 @@
-// The hash, the MAC, attestation, the judging of a trace and of a run file for a C program to time: bench/ links these functions.
+// The hash, the MAC, attestation, the judging of a trace and of a run file for a C program to time: bench/ links these
+// functions.
 use monitor::Traced;
 use refusal::Answer;
 use refusal::Refusal;
@@ -6,12 +7,15 @@ ghost use mathlib.Core.Path.{_≡_};
 ghost use lib.ListN.{length};
 ghost use Rattle.speed.specs.Promises as P;
 
-// 32 bytes at the room's start; a room under 32 bytes is left as it is.
+// The bytes of a digest.
+const DIGEST_BYTES: usize = 32;
+
+// A digest's bytes at the room's start; a room that is too short for them is left as it is.
 fn store(bytes: &[u8], room: &mut [u8])
-    requires { ⌜ length (now bytes) ≡ 32 ⌝ }
+    requires { ⌜ length (now bytes) ≡ P.digestBytes ⌝ }
     ensures { λ _. ⌜ now (room .exit) ≡ P.holding (now (bytes .entry)) (now (room .entry)) ⌝ }
 {
-    if room.len() < 32 {
+    if room.len() < DIGEST_BYTES {
         return;
     }
     octets::store(room, 0, bytes);
@@ -20,7 +24,7 @@ fn store(bytes: &[u8], room: &mut [u8])
 // Stores the bytes that `hash` answers.
 #[no_mangle]
 pub extern "C" fn speed_hash(message: &[u8], room: &mut [u8])
-    ensures { λ _. ⌜ P.Stores (now (message .entry)) (now (room .entry)) (now (room .exit)) ⌝ }
+    ensures { λ _. ⌜ P.StoresHash (now (message .entry)) (now (room .entry)) (now (room .exit)) ⌝ }
 {
     let d = sha256::hash(message).bytes;
     store(&d, room);
@@ -29,7 +33,8 @@ pub extern "C" fn speed_hash(message: &[u8], room: &mut [u8])
 // Stores the bytes that `mac` answers.
 #[no_mangle]
 pub extern "C" fn speed_mac(key: &[u8], message: &[u8], room: &mut [u8])
-    ensures { λ _. ⌜ P.StoresMac (now (key .entry)) (now (message .entry)) (now (room .entry)) (now (room .exit)) ⌝ }
+    ensures { λ _. ⌜ P.StoresMac (now (key .entry)) (now (message .entry))
+        (now (room .entry)) (now (room .exit)) ⌝ }
 {
     let d = hmac::mac(key, message).bytes;
     store(&d, room);
@@ -77,8 +82,8 @@ pub extern "C" fn speed_trace(
     trace: &[u8],
     room: &mut [u8],
 ) -> usize
-    ensures { λ r. ⌜ P.NumbersTrace (now (memory .entry)) (now (layout .entry)) (now (trace .entry)) (now (room .entry))
-        (now (memory .exit)) (now (room .exit)) r ⌝ }
+    ensures { λ r. ⌜ P.NumbersTrace (now (memory .entry)) (now (layout .entry)) (now (trace .entry))
+        (now (room .entry)) (now (memory .exit)) (now (room .exit)) r ⌝ }
 {
     traced(monitor::trace(memory, layout, trace, room))
 }
@@ -86,7 +91,7 @@ pub extern "C" fn speed_trace(
 // What `judge` leaves in memory and room, and the number of its refusal or 0.
 #[no_mangle]
 pub extern "C" fn speed_judge(file: &[u8], memory: &mut [u8], room: &mut [u8]) -> usize
-    ensures { λ r. ⌜ P.Numbers (now (file .entry)) (now (memory .entry)) (now (room .entry))
+    ensures { λ r. ⌜ P.NumbersJudge (now (file .entry)) (now (memory .entry)) (now (room .entry))
         (now (memory .exit)) (now (room .exit)) r ⌝ }
 {
     traced(runfile::judge(file, memory, room))

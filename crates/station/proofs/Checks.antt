@@ -9,7 +9,7 @@ use lib.Dec.{eqb, ltb}
 use lib.ListN.{length}
 use Rattle.refusal.specs.Numbers.{lengthOrTotal}
 use Rattle.notions.proofs.Tests.{neither}
-use Rattle.sha256.specs.declared.Digest.{Digest}
+use Rattle.sha256.specs.declared.Bytes32.{Bytes32}
 use Rattle.sha256.specs.Promises.{Gives}
 use Rattle.sha256.proofs.Laws.{gives-bytes}
 use Rattle.sha256.proofs.Answers.{gives-given}
@@ -28,7 +28,8 @@ both-short k challenge e =
     let p = neither (notOf 64 k) (notOf 32 challenge) e in
     simp (short 64 k (omega arith) (p .0), short 32 challenge (omega arith) (p .1))
 
-pub token-given : (k challenge : List ℕ) (r : Digest) → tokenUnfit k challenge ≡ false → Tokens k challenge r → MakesToken k challenge r
+pub token-given : (k challenge : List ℕ) (r : Bytes32) → tokenUnfit k challenge ≡ false → Tokens k challenge r
+    → MakesToken k challenge r
 token-given k challenge r e p =
     gives-given e refl (subst (λ (t : Bool). Gives t (token k challenge) r) (both-short k challenge e) p)
 
@@ -37,10 +38,11 @@ module _ (k challenge given region : List ℕ) where
       → ChecksReply k challenge given region (Refused (record { number = lengthOrTotal; place = 0 }))
   check-refused e = record { answered = simp e }
 
-  module _ (e : checkUnfit k challenge given region ≡ false) (d : Digest) (p : Replies k challenge region d) where
+  module _ (e : checkUnfit k challenge given region ≡ false) (d : Bytes32) (p : Replies k challenge region d) where
     worked-out : d .bytes ≡ reply k challenge region
     worked-out =
-        let a = neither (tokenUnfit k challenge || notOf 32 given || eqb (length region) 0) (ltb most (length region)) e in
+        let a = neither (tokenUnfit k challenge || notOf 32 given || eqb (length region) 0)
+        (ltb most (length region)) e in
         let b = neither (tokenUnfit k challenge || notOf 32 given) (eqb (length region) 0) (a .0) in
         let c = neither (tokenUnfit k challenge) (notOf 32 given) (b .0) in
         gives-bytes p (simp (both-short k challenge (c .0), a .1))

@@ -85,7 +85,8 @@ told-refused false true r e = absurd (let z : _≡_ {A = ℕ} 0 1 = cc in omega 
 told-refused false false r e = absurd (let z : _≡_ {A = ℕ} 0 1 = cc in omega arith)
 
 module _ {k challenge given region : List ℕ} where
-  pub said-yes : ChecksReply k challenge given region Yes → Lengths k challenge given region × (given ≡ reply k challenge region)
+  pub said-yes : ChecksReply k challenge given region Yes
+      → Lengths k challenge given region × (given ≡ reply k challenge region)
   said-yes p =
       let q = told-yes (checkUnfit k challenge given region) (same given (reply k challenge region)) (p .answered) in
       (fit-lengths k challenge given region (q .0), same-equal given (reply k challenge region) (q .1))
@@ -96,7 +97,8 @@ module _ {k challenge given region : List ℕ} where
       verdict-row-settled v Yes
       (p .answered ∙ simp (lengths-fit k challenge given region f, equal-same given (reply k challenge region) e))
 
-  pub said-no : ChecksReply k challenge given region No → Lengths k challenge given region × (given ≢ reply k challenge region)
+  pub said-no : ChecksReply k challenge given region No
+      → Lengths k challenge given region × (given ≢ reply k challenge region)
   said-no p =
       let q = told-no (checkUnfit k challenge given region) (same given (reply k challenge region)) (p .answered) in (
         fit-lengths k challenge given region (q .0),
@@ -109,9 +111,12 @@ module _ {k challenge given region : List ℕ} where
       let s = untrue (same given (reply k challenge region)) (λ e. n (same-equal given (reply k challenge region) e)) in
       verdict-row-settled v No (p .answered ∙ simp (lengths-fit k challenge given region f, s))
 
-  pub said-refused : (r : Refusal) → ChecksReply k challenge given region (Refused r) → checkUnfit k challenge given region ≡ true
-  said-refused r p = told-refused (checkUnfit k challenge given region) (same given (reply k challenge region)) r (p .answered)
+  pub said-refused : (r : Refusal) → ChecksReply k challenge given region (Refused r)
+      → checkUnfit k challenge given region ≡ true
+  said-refused r p = told-refused (checkUnfit k challenge given region) (same given (reply k challenge region)) r
+      (p .answered)
 
   pub says-refused : (v : Verdict) → ChecksReply k challenge given region v → checkUnfit k challenge given region ≡ true
       → v ≡ Refused (record { number = lengthOrTotal; place = 0 })
-  says-refused v p e = verdict-row-settled v (Refused (record { number = lengthOrTotal; place = 0 })) (p .answered ∙ simp e)
+  says-refused v p e = verdict-row-settled v (Refused (record { number = lengthOrTotal; place = 0 }))
+      (p .answered ∙ simp e)

@@ -3,7 +3,7 @@ use mathlib.Core.Path.{_≡_}
 use mathlib.Core.Bool.{Bool, not, _||_}
 use mathlib.Core.List.{List, [], _∷_}
 use Prim.Native.Nat.{ℕ}
-use lib.Dec.{eqb, ltb}
+use lib.Dec.{eqb}
 use lib.ListN.{length}
 use Rattle.notions.specs.Choice.{pick}
 use Rattle.refusal.specs.Answers as A
@@ -11,10 +11,11 @@ use Rattle.refusal.specs.Answers.{refusedAt, told}
 use Rattle.refusal.specs.Numbers.{lengthOrTotal}
 use Rattle.refusal.specs.declared.Answer.{Answer}
 use Rattle.refusal.specs.declared.Answer.the-variants as call
-use Rattle.sha256.specs.declared.Digest.{Digest}
+use Rattle.sha256.specs.declared.Bytes32.{Bytes32}
 use Rattle.sha256.specs.Promises.{Gives}
 use Rattle.routine.specs.Strings.{same}
-use Rattle.routine.specs.Routine.{token, reply}
+use Rattle.hmac.specs.Promises.{long}
+use Rattle.routine.specs.Routine.{keyBytes, stringBytes, token, reply}
 use Rattle.station.specs.declared.Verdict.{Verdict}
 use Rattle.station.specs.declared.Verdict.the-variants.{Yes, No, Refused}
 
@@ -26,12 +27,12 @@ notOf n b = not (eqb (length b) n)
 
 -- station keys are 64 bytes, challenges 32
 abbrev pub tokenUnfit : List ℕ → List ℕ → Bool
-tokenUnfit k challenge = notOf 64 k || notOf 32 challenge
+tokenUnfit k challenge = notOf keyBytes k || notOf stringBytes challenge
 
 -- replies are 32 bytes, expected regions 1 to 65,536
 abbrev pub checkUnfit : List ℕ → List ℕ → List ℕ → List ℕ → Bool
 checkUnfit k challenge given region =
-    tokenUnfit k challenge || notOf 32 given || eqb (length region) 0 || ltb 65536 (length region)
+    tokenUnfit k challenge || notOf stringBytes given || eqb (length region) 0 || long region
 
 -- ---- answers
 
@@ -44,14 +45,15 @@ verdictRow (Refused r) = A.row (call.Refused r)
 -- ---- the calls
 
 -- `token`
-abbrev pub MakesToken : List ℕ → List ℕ → Digest → Type 0
+abbrev pub MakesToken : List ℕ → List ℕ → Bytes32 → Type 0
 MakesToken k challenge r = Gives (tokenUnfit k challenge) (token k challenge) r
 
 -- `check`: yes exactly if the given reply is step 3's for the key, the challenge and the expected region
-abbrev pub checkCheck : List ℕ → List ℕ → List ℕ → List ℕ → Answer
-checkCheck k challenge given region = pick (checkUnfit k challenge given region) (refusedAt lengthOrTotal 0) call.Done
+abbrev pub lengthsCheck : List ℕ → List ℕ → List ℕ → List ℕ → Answer
+lengthsCheck k challenge given region = pick (checkUnfit k challenge given region) (refusedAt lengthOrTotal 0) call.Done
 
 pub record ChecksReply (k challenge given region : List ℕ) (r : Verdict) : Type 0 where
   pub answered :
       verdictRow r
-      ≡ told (checkCheck k challenge given region) (pick (same given (reply k challenge region)) (1 ∷ 0 ∷ []) (0 ∷ 1 ∷ []))
+      ≡ told (lengthsCheck k challenge given region)
+      (pick (same given (reply k challenge region)) (1 ∷ 0 ∷ []) (0 ∷ 1 ∷ []))

@@ -6,7 +6,7 @@ use native.Mathlib.Omega.{arith}
 use lib.ListN.{length}
 use Rattle.refusal.specs.Settled.{row-settled}
 use Rattle.refusal.specs.declared.Answer.the-variants as call
-use Rattle.sha256.specs.declared.Digest.{Digest}
+use Rattle.sha256.specs.declared.Bytes32.{Bytes32}
 use Rattle.sha256.specs.Settled.{gives-settled}
 use Rattle.station.specs.declared.Verdict.{Verdict}
 use Rattle.station.specs.declared.Verdict.the-variants.{Yes, No, Refused}
@@ -23,7 +23,8 @@ verdict-row-settled (Refused r) Yes e = absurd (let z : _≡_ {A = ℕ} 0 1 = cc
 verdict-row-settled (Refused r) No e = absurd (let z : _≡_ {A = ℕ} 0 1 = cc in omega arith)
 verdict-row-settled (Refused r) (Refused s) e = cc (row-settled (call.Refused r) (call.Refused s) e)
 
-pub makes-token-settled : (k challenge : List ℕ) (r q : Digest) → MakesToken k challenge r → MakesToken k challenge q → r ≡ q
+pub makes-token-settled : (k challenge : List ℕ) (r q : Bytes32) → MakesToken k challenge r → MakesToken k challenge q
+    → r ≡ q
 makes-token-settled k challenge r q p p′ = gives-settled r q p p′
 
 pub checks-reply-settled : (k challenge given region : List ℕ) (r q : Verdict)

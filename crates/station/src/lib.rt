@@ -1,6 +1,7 @@
 // The station: the token for a challenge, and the check of a reply.
 use refusal::Refusal;
-use sha256::Digest;
+use routine::STRING;
+use sha256::Bytes32;
 ghost use Rattle.station.specs.Promises as P;
 
 pub enum Verdict {
@@ -12,22 +13,21 @@ pub enum Verdict {
 // The bytes of a key.
 const KEY: usize = 64;
 
-// The bytes of a challenge, a token or a reply.
-const STRING: usize = 32;
-
 // The token for a challenge; refused unless the key has 64 bytes and the challenge 32.
-pub fn token(key: &[u8], challenge: &[u8]) -> Digest
+pub fn token(key: &[u8], challenge: &[u8]) -> Bytes32
     ensures { λ r. ⌜ P.MakesToken (now (key .entry)) (now (challenge .entry)) r ⌝ }
 {
     if (key.len() != KEY) | (challenge.len() != STRING) {
-        return Digest::refused();
+        return Bytes32::refused();
     }
     routine::token(key, challenge)
 }
 
-// Whether a reply is the routine's for the key, the challenge and the expected region; refused for a wrong length of one of them.
+// Whether a reply is the routine's for the key, the challenge and the expected region; refused for a wrong length of
+// one of them.
 pub fn check(key: &[u8], challenge: &[u8], reply: &[u8], region: &[u8]) -> Verdict
-    ensures { λ r. ⌜ P.ChecksReply (now (key .entry)) (now (challenge .entry)) (now (reply .entry)) (now (region .entry)) r ⌝ }
+    ensures { λ r. ⌜ P.ChecksReply (now (key .entry)) (now (challenge .entry)) (now (reply .entry))
+        (now (region .entry)) r ⌝ }
 {
     if (key.len() != KEY)
         | (challenge.len() != STRING)

@@ -6,7 +6,7 @@ use native.Mathlib.Omega.{arith}
 use lib.Dec.{eqb, ltb}
 use borrow.Author.Tests.{lt-ltb}
 use Rattle.notions.specs.Choice.{pick}
-use Rattle.octets.specs.Numbers.{word}
+use Rattle.octets.specs.Numbers.{numberOfTwo}
 use Rattle.steps.specs.declared.Step.{Step}
 use Rattle.steps.specs.Steps.{bit, stepOf, clean, flags, encode, TellsStep}
 
@@ -60,7 +60,7 @@ flag-digits s =
 pub flags-most : (s : Step) → flags s < 32
 flags-most s = flag-digits s .most
 
-halves : (a : ℕ) → a < 65536 → word (a % 256) (a / 256 % 256) ≡ a
+halves : (a : ℕ) → a < 65536 → numberOfTwo (a % 256) (a / 256 % 256) ≡ a
 halves a h = omega arith
 
 pub tells-step : TellsStep

@@ -6,7 +6,7 @@ use Prim.Native.Nat.{ℕ, _+_, _/_, _%_, _^_, _<_}
 use lib.Dec.{eqb, ltb}
 use lib.ListN.{getD}
 use Rattle.notions.specs.Choice.{pick}
-use Rattle.octets.specs.Numbers.{word}
+use Rattle.octets.specs.Numbers.{numberOfTwo}
 use Rattle.steps.specs.declared.Step.{Step}
 
 -- bit k of a byte is set
@@ -16,9 +16,9 @@ bit k x = eqb (x / 2 ^ k % 2) 1
 -- PC, CPU address, DMA address, flags, CPU data, DMA data
 unfoldable pub stepOf : List ℕ → Step
 stepOf b = record {
-  pc = word (getD b 0 0) (getD b 1 0);
-  cpuaddress = word (getD b 2 0) (getD b 3 0);
-  dmaaddress = word (getD b 4 0) (getD b 5 0);
+  pc = numberOfTwo (getD b 0 0) (getD b 1 0);
+  cpuaddress = numberOfTwo (getD b 2 0) (getD b 3 0);
+  dmaaddress = numberOfTwo (getD b 4 0) (getD b 5 0);
   cpureads = bit 0 (getD b 6 0);
   cpuwrites = bit 1 (getD b 6 0);
   interrupt = bit 2 (getD b 6 0);

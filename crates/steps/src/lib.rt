@@ -21,9 +21,9 @@ pub fn decode(b: [u8; 12]) -> Step
 {
     let flags = b[6];
     Step {
-        pc: octets::word(b[0], b[1]),
-        cpuaddress: octets::word(b[2], b[3]),
-        dmaaddress: octets::word(b[4], b[5]),
+        pc: octets::number_of_two(b[0], b[1]),
+        cpuaddress: octets::number_of_two(b[2], b[3]),
+        dmaaddress: octets::number_of_two(b[4], b[5]),
         cpureads: (flags >> 0) % 2 == 1,
         cpuwrites: (flags >> 1) % 2 == 1,
         interrupt: (flags >> 2) % 2 == 1,

@@ -1,1 +1,2 @@
+pub mod Pattern
 pub mod Published

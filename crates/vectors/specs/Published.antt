@@ -1,5 +1,5 @@
--- Published examples that the checker works out from the definitions: both of FIPS 180-4's, and the second of RFC 4231's cases.
--- Assumes nothing.
+-- Published examples that the checker works out from the definitions: both of FIPS 180-4's, and the second of RFC
+-- 4231's cases. Assumes nothing.
 use mathlib.Core.Path.{_≡_, refl}
 use mathlib.Core.List.{List, [], _∷_}
 use Prim.Native.Nat.{ℕ}

@@ -1,13 +1,19 @@
-// Lengths around the edges of blocks and limits: the first bytes of a pattern, whose byte i is i % 251 + 1. None is 0, since a 0 could
-// get lost among the zeros that fill a block.
+// Lengths around the edges of blocks and limits: the first bytes of a pattern, whose byte i is i % 251 + 1. None is 0,
+// since a 0 could get lost among the zeros that fill a block.
 use crate::line;
+ghost use mathlib.Core.Path.{_≡_};
 ghost use Prim.Native.Nat.{_≤_};
 ghost use lib.ListN.{length};
+ghost use Rattle.vectors.specs.Pattern as P;
 
 // One byte more than the hash takes.
-pub type Pattern = [u8; 131073];
+pub const PATTERN_BYTES: usize = 131_073;
 
-pub fn fill(pattern: &mut [u8]) {
+pub type Pattern = [u8; PATTERN_BYTES];
+
+pub fn fill(pattern: &mut [u8])
+    ensures { λ _. ⌜ now (pattern .exit) ≡ P.patternOf (length (now (pattern .entry))) ⌝ }
+{
     let mut i = 0;
     while i < pattern.len() {
         pattern[i] = (i % 251 + 1) as u8;
@@ -21,7 +27,7 @@ fn hash_of(pattern: &[u8], n: usize)
     line::hash(b"pattern", &pattern[0..n]);
 }
 
-pub fn hashes(pattern: &Pattern) {
+fn around_one_block(pattern: &Pattern) {
     hash_of(pattern, 0);
     hash_of(pattern, 1);
     hash_of(pattern, 55);
@@ -29,15 +35,27 @@ pub fn hashes(pattern: &Pattern) {
     hash_of(pattern, 63);
     hash_of(pattern, 64);
     hash_of(pattern, 65);
+}
+
+fn around_two_blocks(pattern: &Pattern) {
     hash_of(pattern, 119);
     hash_of(pattern, 120);
     hash_of(pattern, 127);
     hash_of(pattern, 128);
+}
+
+fn around_the_limits(pattern: &Pattern) {
     hash_of(pattern, 65535);
     hash_of(pattern, 65536);
     hash_of(pattern, 131071);
     hash_of(pattern, 131072);
     hash_of(pattern, 131073);
+}
+
+pub fn hashes(pattern: &Pattern) {
+    around_one_block(pattern);
+    around_two_blocks(pattern);
+    around_the_limits(pattern);
 }
 
 fn mac_of(pattern: &[u8], key: usize, message: usize)
@@ -57,16 +75,24 @@ pub fn keys(pattern: &Pattern) {
     mac_of(pattern, 65537, 28);
 }
 
-pub fn messages(pattern: &Pattern) {
+fn short_messages(pattern: &Pattern) {
     mac_of(pattern, 20, 0);
     mac_of(pattern, 20, 1);
     mac_of(pattern, 20, 63);
     mac_of(pattern, 20, 64);
     mac_of(pattern, 20, 65);
+}
+
+fn long_messages(pattern: &Pattern) {
     mac_of(pattern, 20, 65535);
     mac_of(pattern, 20, 65536);
     mac_of(pattern, 20, 65537);
     mac_of(pattern, 0, 0);
     mac_of(pattern, 65536, 65536);
     mac_of(pattern, 65537, 65537);
+}
+
+pub fn messages(pattern: &Pattern) {
+    short_messages(pattern);
+    long_messages(pattern);
 }

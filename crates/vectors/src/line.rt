@@ -2,7 +2,7 @@
 use libc::STDOUT_FILENO;
 use refusal::Answer;
 use refusal::Refusal;
-use sha256::Digest;
+use sha256::Bytes32;
 use sha256::Sha;
 
 fn text(bytes: &[u8]) {
@@ -63,7 +63,7 @@ fn refused(r: Refusal) {
     number(r.place as u64);
 }
 
-fn digest(d: Digest) {
+fn digest(d: Bytes32) {
     let answer = d.answer;
     let bytes = d.bytes;
     match answer {

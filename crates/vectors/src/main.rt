@@ -1,5 +1,6 @@
-// Prints a line for each case of SHA-256, HMAC and the running hash: published examples, lengths around the edges of blocks and limits, a
-// message in parts, and states that no message reaches. tests/second works the same lines out by itself.
+// Prints a line for each case of SHA-256, HMAC and the running hash: published examples, lengths around the edges of
+// blocks and limits, a message in parts, and states that no message reaches. tests/second works the same lines out by
+// itself.
 mod lengths;
 mod line;
 mod published;
@@ -19,7 +20,7 @@ fn cases_of(pattern: &Pattern) {
 
 fn main() {
     published::examples();
-    let mut pattern = [0u8; 131073];
+    let mut pattern = [0u8; lengths::PATTERN_BYTES];
     lengths::fill(&mut pattern);
     cases_of(&pattern);
 }

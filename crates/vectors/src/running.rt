@@ -11,7 +11,8 @@ fn after(state: Sha, bytes: &[u8]) -> Sha {
     t.state
 }
 
-// One turn's parts, an empty one among them. 293 is odd, so that in 64 turns each part meets every filling of the block.
+// One turn's parts, an empty one among them. 293 is odd, so that in 64 turns each part meets every filling of the
+// block.
 fn turn(state: Sha, bytes: &[u8]) -> Sha
     requires { ⌜ length (now bytes) ≡ 293 ⌝ }
 {
@@ -71,7 +72,7 @@ pub fn started() {
     let held = state(7);
     let words = held.words;
     let block = held.block;
-    let s = lent::start_at(words, block, held.total);
+    let s = lent_hash::start_with_fields(words, block, held.total);
     line::take_in(b"started", s, b"");
     line::finish(b"started", s);
 }

@@ -4,11 +4,11 @@ use borrow.Author.Needs.{needs}
 use Rattle.board.proofs.accept.Statement.{statement}
 use Rattle.board.proofs.accept.Tie as tie
 
-lowest-requires : tie.Need-lowest-requires
-lowest-requires c κs = search needs
+lowest-in-memory-requires : tie.Need-lowest-in-memory-requires
+lowest-in-memory-requires c κs = search needs
 
-lowest-requires-2 : tie.Need-lowest-requires-2
-lowest-requires-2 c κs = search needs
+lowest-in-memory-requires-2 : tie.Need-lowest-in-memory-requires-2
+lowest-in-memory-requires-2 c κs = search needs
 
 copy-requires : tie.Need-copy-requires
 copy-requires c κs = search needs
@@ -39,16 +39,20 @@ same-length c = search needs
 
 returns : tie.Need-returns
 returns c =
-    let y = c .before .before .before .before .before .before .before .before .before .before in
+    let v = c .before .before in
+    let w = v .before .before .before .before .before in
+    let y = w .before .before .before in
     let z = y .before .before .before .before in
-    accepts _ _ _ _ _ _ _ _ (z .before .before .before .pre .2) (z .before .lowest .ensures .0) (z .lowest2 .ensures .0) (y .before .before .copy .ensures) (y .reply .ensures) (c .before .before .before .before .before .before .before .store .ensures) (c .before .before .store2 .ensures)
+    accepts _ _ _ _ _ _ _ _ (z .before .before .before .pre .2) (z .before .lowest-in-memory .ensures .0)
+    (z .lowest-in-memory2 .ensures .0) (y .before .before .copy .ensures) (y .reply .ensures) (w .store .ensures)
+    (v .store2 .ensures)
 
 pub accept-spec : {M : Type 1} → statement M
 accept-spec =
     tie.close
     (tie.spec
-    lowest-requires
-    lowest-requires-2
+    lowest-in-memory-requires
+    lowest-in-memory-requires-2
     copy-requires
     reply-requires
     mul-store

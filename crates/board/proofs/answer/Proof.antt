@@ -12,8 +12,13 @@ enum-told c = search needs
 
 accept-requires : tie.Need-accept-requires
 accept-requires c κs =
-    let z = c .before .before .before .before .before .before in
-    (z .pre .0, z .pre .1, genuine (z .args .l) (z .args .memory .now) _ (c .before .before .before .authorise .ensures) (c .before .enum-told .given .1))
+    let x = c .before .before .before in
+    let z = x .before .before .before in (
+      z .pre .0,
+      z .pre .1,
+      genuine (z .args .l) (z .args .memory .now) _ (x .authorise .ensures)
+          (c .before .enum-told .given .1),
+    )
 
 enum-known-r : tie.Need-enum-known-r
 enum-known-r c = search needs
@@ -23,16 +28,22 @@ same-length c = search needs
 
 returns : tie.Need-returns
 returns c =
-    let z = c .before .before .before .before .before .before .before .before .before .args in
-    answered-done (z .l) (z .memory .now) _ _ (c .before .before .before .before .before .before .authorise .ensures) (c .before .before .before .before .enum-told .given .1) (c .before .before .accept .ensures)
+    let v = c .before .before in
+    let w = v .before .before in
+    let x = w .before .before in
+    let y = x .before .before .before in
+    let z = y .args in
+    answered-done (z .l) (z .memory .now) _ _ (x .authorise .ensures) (w .enum-told .given .1) (v .accept .ensures)
 
 same-length-2 : tie.Need-same-length-2
 same-length-2 c = search needs
 
 returns-2 : tie.Need-returns-2
 returns-2 c =
-    let z = c .before .before .before .before .before .before .args in
-    answered-refused (z .l) (z .memory .now) _ _ (c .before .before .before .authorise .ensures) (c .before .r .given .1)
+    let x = c .before .before .before in
+    let y = x .before .before .before in
+    let z = y .args in
+    answered-refused (z .l) (z .memory .now) _ _ (x .authorise .ensures) (c .before .r .given .1)
 
 pub answer-spec : {M : Type 1} → statement M
 answer-spec =

@@ -14,7 +14,10 @@ enum-known-l : tie.Need-enum-known-l
 enum-known-l c = search needs
 
 answer-requires : tie.Need-answer-requires
-answer-requires c κs = admitted-sized _ _ _ (subst (Admits _ _ Done) (c .before .before .l .given .1) (c .before .before .before .before .admit .ensures))
+answer-requires c κs =
+    let y = c .before .before in
+    let z = y .before .before in
+    admitted-sized _ _ _ (subst (Admits _ _ Done) (y .l .given .1) (z .admit .ensures))
 
 enum-known-r : tie.Need-enum-known-r
 enum-known-r c = search needs
@@ -23,13 +26,19 @@ same-length : tie.Need-same-length
 same-length c = search needs
 
 returns : tie.Need-returns
-returns c = attest-answered _ _ _ _ _ (subst (Admits _ _ Done) (c .before .before .before .before .before .l .given .1) (c .before .before .before .before .before .before .before .admit .ensures)) (c .before .before .answer .ensures)
+returns c =
+    let x = c .before .before in
+    let y = x .before .before .before in
+    let z = y .before .before in
+    attest-answered _ _ _ _ _ (subst (Admits _ _ Done) (y .l .given .1) (z .admit .ensures)) (x .answer .ensures)
 
 same-length-2 : tie.Need-same-length-2
 same-length-2 c = search needs
 
 returns-2 : tie.Need-returns-2
-returns-2 c = attest-refused _ _ _ (subst (Admits _ _ Done) (c .before .r .given .1) (c .before .before .before .admit .ensures))
+returns-2 c =
+    let z = c .before .before .before in
+    attest-refused _ _ _ (subst (Admits _ _ Done) (c .before .r .given .1) (z .admit .ensures))
 
 pub attest-spec : {M : Type 1} → statement M
 attest-spec =

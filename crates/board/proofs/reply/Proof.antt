@@ -4,8 +4,8 @@ use borrow.Author.Needs.{needs}
 use Rattle.board.proofs.reply.Statement.{statement}
 use Rattle.board.proofs.reply.Tie as tie
 
-lowest-requires : tie.Need-lowest-requires
-lowest-requires c κs = search needs
+lowest-in-memory-requires : tie.Need-lowest-in-memory-requires
+lowest-in-memory-requires c κs = search needs
 
 part-requires : tie.Need-part-requires
 part-requires c κs = search needs
@@ -24,15 +24,20 @@ reply-to-requires c κs = search needs
 
 returns : tie.Need-returns
 returns c =
-    let y = c .before .before .before .before in
+    let v = c .before .before in
+    let w = v .before in
+    let y = w .before in
     let z = y .before .before .before in
-    replied-to _ _ _ _ _ (z .pre .1) (y .part .ensures .1) (c .before .before .string .ensures .1) (y .before .lowest .ensures .0) (y .part .ensures .0) (c .before .before .string .ensures .0) _ (c .before .reply-to .result) (c .before .before .before .part2 .ensures .1) (c .before .before .before .part2 .ensures .2) (c .before .before .before .part2 .ensures .0) (c .before .reply-to .ensures)
+    replied-to _ _ _ _ _ (z .pre .1) (y .part .ensures .1) (v .string .ensures .1)
+    (y .before .lowest-in-memory .ensures .0) (y .part .ensures .0) (v .string .ensures .0) _
+    (c .before .reply-to .result) (w .part2 .ensures .1) (w .part2 .ensures .2) (w .part2 .ensures .0)
+    (c .before .reply-to .ensures)
 
 pub reply-spec : {M : Type 1} → statement M
 reply-spec =
     tie.close
     (tie.spec
-    lowest-requires
+    lowest-in-memory-requires
     part-requires
     part-requires-2
     add-string

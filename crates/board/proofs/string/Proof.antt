@@ -24,7 +24,8 @@ returns : tie.Need-returns
 returns c =
     let a = c .before .args .a in
     let e : a + 32 - a ≡ 32 = omega arith in
-    let n : length (take 32 (drop a (c .before .args .memory .now))) ≡ 32 = length-bytes a 32 (c .before .args .memory .now) (c .before .pre) in
+    let n : length (take 32 (drop a (c .before .args .memory .now))) ≡ 32 =
+    length-bytes a 32 (c .before .args .memory .now) (c .before .pre) in
     (rw e refl, rw e n)
 
 pub string-spec : {M : Type 1} → statement M

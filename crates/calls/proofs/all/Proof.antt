@@ -4,10 +4,10 @@ use Rattle.calls.proofs.all.Statement.{statement}
 use Rattle.calls.proofs.all.Tie as tie
 
 abbrev Inv-loop : tie.InvT-loop
-Inv-loop call₀ a₀ b₀ c₀ d₀ e₀ turns₀ call a b c d e turns = Unit {0}
+Inv-loop call₀ memory₀ room₀ turns₀ call memory room turns = Unit {0}
 
 abbrev μ-loop : tie.MeasureT-loop
-μ-loop call₀ a₀ b₀ c₀ d₀ e₀ turns₀ call a b c d e turns = turns
+μ-loop call₀ memory₀ room₀ turns₀ call memory room turns = turns
 
 loop-holds : tie.Need-loop-holds Inv-loop μ-loop
 loop-holds c = search needs

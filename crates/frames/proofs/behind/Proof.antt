@@ -25,7 +25,8 @@ sub-if2-2 c = search needs
 returns-2 : tie.Need-returns-2
 returns-2 c =
     let a = c .before .before .before .before .args in
-    behind-end (a .bytes .now) (a .at) (omega (arith, c .if2 .taken, c .before .if1 .left, c .before .before .size-at .ensures))
+    behind-end (a .bytes .now) (a .at)
+    (omega (arith, c .if2 .taken, c .before .if1 .left, c .before .before .size-at .ensures))
 
 add-result : tie.Need-add-result
 add-result c = search needs
@@ -36,7 +37,9 @@ add-result-2 c = search needs
 returns-3 : tie.Need-returns-3
 returns-3 c =
     let z = c .before .before .before .before in
-    behind-here (z .args .bytes .now) (z .args .at) (c .before .before .size-at .result) (c .before .before .size-at .ensures) (z .pre) (omega (arith, c .if2 .left, c .before .if1 .left))
+    let size = c .before .before .size-at in
+    behind-here (z .args .bytes .now) (z .args .at) (size .result) (size .ensures) (z .pre)
+    (omega (arith, c .if2 .left, c .before .if1 .left))
 
 pub behind-spec : {M : Type 1} → statement M
 behind-spec =

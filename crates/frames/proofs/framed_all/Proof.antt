@@ -1,7 +1,8 @@
 -- `frames::framed_all` meets its contract. Assumes nothing.
 use Prim.Native.Nat.{_-_}
 use native.Mathlib.Omega.{arith}
-use Rattle.frames.proofs.Walk.{unwhole, whole, Walked, walked-none, walked-all, walked-few, walked-stop, walked-more}
+use Rattle.frames.proofs.Walk.{unwhole, whole, Walked, walked-none, walked-all, walked-few, walked-stop}
+use Rattle.frames.proofs.Walk.{walked-more}
 use borrow.Author.Needs.{needs}
 use Rattle.frames.proofs.framed_all.Statement.{statement}
 use Rattle.frames.proofs.framed_all.Tie as tie
@@ -23,7 +24,9 @@ is-whole-requires c κs = search needs
 
 returns : tie.Need-returns Inv-loop μ-loop
 returns c =
-    walked-stop _ _ _ _ _ _ _ (c .before .before .before .before .loop .inv) (omega arith) (c .before .before .framed-one .ensures) (unwhole _ (c .before .before .framed-one .result) (c .before .is-whole .ensures) (c .if1 .taken))
+    let one = c .before .before in
+    walked-stop _ _ _ _ _ _ _ (one .before .before .loop .inv) (omega arith) (one .framed-one .ensures)
+    (unwhole _ (one .framed-one .result) (c .before .is-whole .ensures) (c .if1 .taken))
 
 size-at-requires : tie.Need-size-at-requires Inv-loop μ-loop
 size-at-requires c κs = search needs
@@ -31,7 +34,12 @@ size-at-requires c κs = search needs
 add-used : tie.Need-add-used Inv-loop μ-loop
 add-used c =
     let h = c .before .before in
-    omega (arith, walked-few _ _ _ _ _ _ _ (h .before .before .before .loop .inv) (omega arith) (h .before .framed-one .ensures) _ (whole _ (h .before .framed-one .result) (h .is-whole .ensures) (c .before .if1 .left)) (c .size-at .ensures))
+    let one = h .before in
+    omega (
+      arith,
+      walked-few _ _ _ _ _ _ _ (one .before .before .loop .inv) (omega arith) (one .framed-one .ensures) _
+          (whole _ (one .framed-one .result) (h .is-whole .ensures) (c .before .if1 .left)) (c .size-at .ensures),
+    )
 
 behind-requires : tie.Need-behind-requires Inv-loop μ-loop
 behind-requires c κs = c .before .before .before .before .before .loop .inv .inside
@@ -45,7 +53,10 @@ loop-less c = omega arith
 loop-again : tie.Need-loop-again Inv-loop μ-loop
 loop-again c =
     let h = c .before .before .before in
-    walked-more _ _ _ _ _ _ _ (h .before .before .before .loop .inv) (omega arith) (h .before .framed-one .ensures) _ _ (whole _ (h .before .framed-one .result) (h .is-whole .ensures) (c .before .before .if1 .left)) (c .before .size-at .ensures) (c .behind .ensures .0) (c .behind .ensures .1)
+    let one = h .before in
+    walked-more _ _ _ _ _ _ _ (one .before .before .loop .inv) (omega arith) (one .framed-one .ensures) _ _
+    (whole _ (one .framed-one .result) (h .is-whole .ensures) (c .before .before .if1 .left))
+    (c .before .size-at .ensures) (c .behind .ensures .0) (c .behind .ensures .1)
 
 returns-2 : tie.Need-returns-2 Inv-loop μ-loop
 returns-2 c = walked-all _ _ _ _ _ _ (c .before .loop .inv) (omega arith)

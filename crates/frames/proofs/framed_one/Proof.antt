@@ -28,7 +28,10 @@ returns-2 : tie.Need-returns-2
 returns-2 c =
     let z = c .before .before .before .before .before in
     let a = z .args in
-    found-cut (a .number) (a .i) (a .used) (a .at) (c .before .before .size-at .result) (c .before .allowed .result) (a .bytes .now) (c .before .before .size-at .ensures) (c .before .allowed .ensures) (z .pre .1) (c .before .before .before .if1 .left) (c .if2 .taken)
+    let size = c .before .before .size-at in
+    let allows = c .before .allowed in
+    found-cut (a .number) (a .i) (a .used) (a .at) (size .result) (allows .result) (a .bytes .now)
+    (size .ensures) (allows .ensures) (z .pre .1) (c .before .before .before .if1 .left) (c .if2 .taken)
 
 sub-t15 : tie.Need-sub-t15
 sub-t15 c = search needs
@@ -37,13 +40,21 @@ returns-3 : tie.Need-returns-3
 returns-3 c =
     let z = c .before .before .before .before .before .before in
     let a = z .args in
-    found-part (a .number) (a .i) (a .used) (a .at) (c .before .before .before .size-at .result) (c .before .before .allowed .result) (a .bytes .now) (c .before .before .before .size-at .ensures) (c .before .before .allowed .ensures) (z .pre .1) (c .before .before .before .before .if1 .left) (c .before .if2 .left) (c .if3 .taken)
+    let size = c .before .before .before .size-at in
+    let allows = c .before .before .allowed in
+    found-part (a .number) (a .i) (a .used) (a .at) (size .result) (allows .result) (a .bytes .now)
+    (size .ensures) (allows .ensures) (z .pre .1)
+    (c .before .before .before .before .if1 .left) (c .before .if2 .left) (c .if3 .taken)
 
 returns-4 : tie.Need-returns-4
 returns-4 c =
     let z = c .before .before .before .before .before .before in
     let a = z .args in
-    found-whole (a .number) (a .i) (a .used) (a .at) (c .before .before .before .size-at .result) (c .before .before .allowed .result) (a .bytes .now) (c .before .before .before .size-at .ensures) (c .before .before .allowed .ensures) (z .pre .1) (c .before .before .before .before .if1 .left) (c .before .if2 .left) (c .if3 .left)
+    let size = c .before .before .before .size-at in
+    let allows = c .before .before .allowed in
+    found-whole (a .number) (a .i) (a .used) (a .at) (size .result) (allows .result) (a .bytes .now)
+    (size .ensures) (allows .ensures) (z .pre .1)
+    (c .before .before .before .before .if1 .left) (c .before .if2 .left) (c .if3 .left)
 
 pub framed-one-spec : {M : Type 1} → statement M
 framed-one-spec =

@@ -20,13 +20,16 @@ returns : tie.Need-returns
 returns c =
     let h = c .before .before .before in
     let k = h .before .before .before .args .key .now in
-    key-long k _ (c .block-of .result) (h .before .if1 .taken) (gives-bytes (h .hash .ensures) (over-not (length k) (omega arith))) (c .block-of .ensures)
+    key-long k _ (c .block-of .result) (h .before .if1 .taken)
+    (gives-bytes (h .hash .ensures) (over-not (length k) (omega arith))) (c .block-of .ensures)
 
 block-of-requires-2 : tie.Need-block-of-requires-2
 block-of-requires-2 c κs = search needs
 
 returns-2 : tie.Need-returns-2
-returns-2 c = key-short (c .before .before .before .args .key .now) (c .block-of2 .result) (c .before .if1 .left) (c .block-of2 .ensures)
+returns-2 c =
+    let z = c .before .before .before in
+    key-short (z .args .key .now) (c .block-of2 .result) (c .before .if1 .left) (c .block-of2 .ensures)
 
 pub key-block-spec : {M : Type 1} → statement M
 key-block-spec =

@@ -10,17 +10,17 @@ key-block-requires c κs = search needs
 mask-requires : tie.Need-mask-requires
 mask-requires c κs = search needs
 
-hash-behind-requires : tie.Need-hash-behind-requires
-hash-behind-requires c κs = search needs
+hash-joined-requires : tie.Need-hash-joined-requires
+hash-joined-requires c κs = search needs
 
 mask-requires-2 : tie.Need-mask-requires-2
 mask-requires-2 c κs = search needs
 
-slice-aggregate-hash-behind : tie.Need-slice-aggregate-hash-behind
-slice-aggregate-hash-behind c = search needs
+slice-aggregate-hash-joined : tie.Need-slice-aggregate-hash-joined
+slice-aggregate-hash-joined c = search needs
 
-hash-behind-requires-2 : tie.Need-hash-behind-requires-2
-hash-behind-requires-2 c κs = search needs
+hash-joined-requires-2 : tie.Need-hash-joined-requires-2
+hash-joined-requires-2 c κs = search needs
 
 returns : tie.Need-returns
 unfolding hmac
@@ -32,8 +32,8 @@ mac-of-spec =
     (tie.spec
     key-block-requires
     mask-requires
-    hash-behind-requires
+    hash-joined-requires
     mask-requires-2
-    slice-aggregate-hash-behind
-    hash-behind-requires-2
+    slice-aggregate-hash-joined
+    hash-joined-requires-2
     returns)

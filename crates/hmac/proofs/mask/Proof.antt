@@ -33,8 +33,14 @@ loop-less c = search needs
 
 loop-again : tie.Need-loop-again Inv-loop μ-loop
 loop-again c =
-    let l = c .before .loop in
-    (omega arith, simp length-set (omega arith), l .inv .2, mask-more (c .before .before .args .x) (c .before .before .args .block) (l .b) (l .i) (omega arith) (l .inv .3))
+    let z = c .before .before in
+    let l = c .before .loop in (
+      omega arith,
+      simp length-set (omega arith),
+      l .inv .2,
+      mask-more (z .args .x) (z .args .block) (l .b) (l .i)
+          (omega arith) (l .inv .3),
+    )
 
 returns : tie.Need-returns Inv-loop μ-loop
 returns c =

@@ -27,18 +27,26 @@ enum-known-r c = search needs
 
 returns-2 : tie.Need-returns-2
 returns-2 c =
-    let h = c .before .before .before .before .before .before .before .before .before .args in
-    admit-good (h .memory .now) (h .layout .now) (h .rest) (c .before .before .before .before .before .before .if1 .left) _ (subst (Checks _) (c .before .before .before .l .given .1) (c .before .before .before .before .before .check .ensures)) (c .enum-told .given .1)
+    let g = c .before .before .before in
+    let k = g .before .before in
+    let h = k .before .before .before .before .args in
+    let checks = subst (Checks _) (g .l .given .1) (k .check .ensures) in
+    admit-good (h .memory .now) (h .layout .now) (h .rest) (k .before .if1 .left) _ checks (c .enum-told .given .1)
 
 returns-3 : tie.Need-returns-3
 returns-3 c =
-    let h = c .before .before .before .before .before .before .before .before .before .before .args in
-    admit-rest (h .memory .now) (h .layout .now) (h .rest) (c .before .before .before .before .before .before .before .if1 .left) _ _ (subst (Checks _) (c .before .before .before .before .l .given .1) (c .before .before .before .before .before .before .check .ensures)) (c .before .rest .given .1)
+    let g = c .before .before .before .before in
+    let k = g .before .before in
+    let h = k .before .before .before .before .args in
+    let checks = subst (Checks _) (g .l .given .1) (k .check .ensures) in
+    admit-rest (h .memory .now) (h .layout .now) (h .rest) (k .before .if1 .left) _ _ checks (c .before .rest .given .1)
 
 returns-4 : tie.Need-returns-4
 returns-4 c =
-    let h = c .before .before .before .before .before .before .before .args in
-    admit-refused (h .memory .now) (h .layout .now) (h .rest) (c .before .before .before .before .if1 .left) _ (subst (Checks _) (c .before .r .given .1) (c .before .before .before .check .ensures))
+    let k = c .before .before .before in
+    let h = k .before .before .before .before .args in
+    let checks = subst (Checks _) (c .before .r .given .1) (k .check .ensures) in
+    admit-refused (h .memory .now) (h .layout .now) (h .rest) (k .before .if1 .left) _ checks
 
 pub admit-spec : {M : Type 1} → statement M
 admit-spec =

@@ -11,25 +11,29 @@ returns : tie.Need-returns
 unfolding layoutCheck
 returns c = is-checks _ _ (simp (ne-eqb _ _ (c .if1 .taken)))
 
-vet-requires : tie.Need-vet-requires
-vet-requires c κs = search needs
+check-regions-requires : tie.Need-check-regions-requires
+check-regions-requires c κs = search needs
 
 enum-told : tie.Need-enum-told
 enum-told c = search needs
 
-read-requires : tie.Need-read-requires
-read-requires c κs = search needs
+layout-of-requires : tie.Need-layout-of-requires
+layout-of-requires c κs = search needs
 
 enum-known-r : tie.Need-enum-known-r
 enum-known-r c = search needs
 
 returns-2 : tie.Need-returns-2
-returns-2 c = is-checks _ _ (simp (sym (c .before .before .before .vet .ensures) ∙ c .before .enum-told .given .1, c .read .ensures))
+returns-2 c =
+    let k = c .before .before .before .check-regions in
+    is-checks _ _ (simp (sym (k .ensures) ∙ c .before .enum-told .given .1, c .layout-of .ensures))
 
 returns-3 : tie.Need-returns-3
-returns-3 c = is-checks _ _ (simp (sym (c .before .before .before .vet .ensures) ∙ c .before .r .given .1))
+returns-3 c =
+    let k = c .before .before .before .check-regions in
+    is-checks _ _ (simp (sym (k .ensures) ∙ c .before .r .given .1))
 
 pub check-spec : {M : Type 1} → statement M
 check-spec =
     tie.close
-    (tie.spec returns vet-requires enum-told read-requires enum-known-r returns-2 returns-3)
+    (tie.spec returns check-regions-requires enum-told layout-of-requires enum-known-r returns-2 returns-3)

@@ -10,7 +10,9 @@ region-at-requires-2 : tie.Need-region-at-requires-2
 region-at-requires-2 c κs = search needs
 
 returns : tie.Need-returns
-returns c = simp (c .before .before .before .before .region-at2 .ensures, c .before .before .before .before .before .region-at .ensures)
+returns c =
+    let y = c .before .before .before .before in
+    simp (y .region-at2 .ensures, y .before .region-at .ensures)
 
 pub collide-spec : {M : Type 1} → statement M
 collide-spec = tie.close (tie.spec region-at-requires region-at-requires-2 returns)

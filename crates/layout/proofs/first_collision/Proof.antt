@@ -1,19 +1,20 @@
 -- `layout::first_collision` meets its contract. The loop has passed all below its index. Assumes nothing.
-use Prim.Native.Nat.{_-_, _/_, _%_}
+use Prim.Native.Nat.{_*_, _-_, _/_, _%_}
 use mathlib.Core.Path.{sym}
 use mathlib.Core.Bool.{_&&_}
 use native.Mathlib.Omega.{arith}
 use lib.Dec.{ltb}
-use Rattle.layout.specs.Layouts.{collide}
+use Rattle.layout.specs.Layouts.{regions, collide}
 use Rattle.notions.proofs.First.{Passed, passed-zero, passed-more, passed-found, passed-all}
 use Rattle.layout.proofs.first_collision.Statement.{statement}
 use Rattle.layout.proofs.first_collision.Tie as tie
 
 abbrev Inv-loop : tie.InvT-loop
-Inv-loop b n₀ n = Passed 36 (λ j. ltb (j / 6) (j % 6) && collide b (j / 6) (j % 6)) n
+Inv-loop b n₀ n =
+    Passed (regions * regions) (λ j. ltb (j / regions) (j % regions) && collide b (j / regions) (j % regions)) n
 
 abbrev μ-loop : tie.MeasureT-loop
-μ-loop b n₀ n = 36 - n
+μ-loop b n₀ n = regions * regions - n
 
 loop-holds : tie.Need-loop-holds Inv-loop μ-loop
 loop-holds c = passed-zero _ _

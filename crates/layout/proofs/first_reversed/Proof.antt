@@ -4,16 +4,16 @@ use mathlib.Core.Path.{ap, sym, _∙_}
 use native.Mathlib.Omega.{arith}
 use borrow.Author.Tests.{lt-ltb, le-ltb}
 use Rattle.layout.specs.Regions.{reversed}
-use Rattle.layout.specs.Layouts.{region}
+use Rattle.layout.specs.Layouts.{regions, region}
 use Rattle.notions.proofs.First.{Passed, passed-zero, passed-more, passed-found, passed-all}
 use Rattle.layout.proofs.first_reversed.Statement.{statement}
 use Rattle.layout.proofs.first_reversed.Tie as tie
 
 abbrev Inv-loop : tie.InvT-loop
-Inv-loop b k₀ k = Passed 6 (λ j. reversed (region b j)) k
+Inv-loop b k₀ k = Passed regions (λ j. reversed (region b j)) k
 
 abbrev μ-loop : tie.MeasureT-loop
-μ-loop b k₀ k = 6 - k
+μ-loop b k₀ k = regions - k
 
 loop-holds : tie.Need-loop-holds Inv-loop μ-loop
 loop-holds c = passed-zero _ _
@@ -25,7 +25,8 @@ returns : tie.Need-returns Inv-loop μ-loop
 returns c =
     let h = c .before .before .before .before .loop in
     let r = c .before .before .region-at in
-    passed-found (h .inv) (omega arith) (ap reversed (sym (r .ensures)) ∙ lt-ltb (r .result .hi) (r .result .lo) (omega arith))
+    passed-found (h .inv) (omega arith)
+    (ap reversed (sym (r .ensures)) ∙ lt-ltb (r .result .hi) (r .result .lo) (omega arith))
 
 add-k : tie.Need-add-k Inv-loop μ-loop
 add-k c = omega arith
@@ -37,7 +38,8 @@ loop-again : tie.Need-loop-again Inv-loop μ-loop
 loop-again c =
     let h = c .before .before .before .before .loop in
     let r = c .before .before .region-at in
-    passed-more (h .inv) (omega arith) (ap reversed (sym (r .ensures)) ∙ le-ltb (r .result .hi) (r .result .lo) (omega arith))
+    passed-more (h .inv) (omega arith)
+    (ap reversed (sym (r .ensures)) ∙ le-ltb (r .result .hi) (r .result .lo) (omega arith))
 
 returns-2 : tie.Need-returns-2 Inv-loop μ-loop
 returns-2 c = passed-all (c .before .loop .inv) (omega arith)

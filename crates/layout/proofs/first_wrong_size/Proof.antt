@@ -2,16 +2,16 @@
 use Prim.Native.Nat.{_-_}
 use mathlib.Core.Path.{ap, sym, _∙_}
 use native.Mathlib.Omega.{arith}
-use Rattle.layout.specs.Layouts.{region, wrongSize}
+use Rattle.layout.specs.Layouts.{regions, region, wrongSize}
 use Rattle.notions.proofs.First.{Passed, passed-zero, passed-more, passed-found, passed-all}
 use Rattle.layout.proofs.first_wrong_size.Statement.{statement}
 use Rattle.layout.proofs.first_wrong_size.Tie as tie
 
 abbrev Inv-loop : tie.InvT-loop
-Inv-loop b k₀ k = Passed 6 (λ j. wrongSize j (region b j)) k
+Inv-loop b k₀ k = Passed regions (λ j. wrongSize j (region b j)) k
 
 abbrev μ-loop : tie.MeasureT-loop
-μ-loop b k₀ k = 6 - k
+μ-loop b k₀ k = regions - k
 
 loop-holds : tie.Need-loop-holds Inv-loop μ-loop
 loop-holds c = passed-zero _ _
@@ -26,7 +26,8 @@ returns : tie.Need-returns Inv-loop μ-loop
 returns c =
     let h = c .before .before .before .before .loop in
     let e = ap (wrongSize (h .k)) (sym (c .before .before .region-at .ensures)) ∙ sym (c .before .wrong-size .ensures) in
-    passed-found (h .inv) (omega arith) (e ∙ c .if1 .taken)
+    passed-found (h .inv) (omega arith)
+    (e ∙ c .if1 .taken)
 
 add-k : tie.Need-add-k Inv-loop μ-loop
 add-k c = omega arith
@@ -38,7 +39,8 @@ loop-again : tie.Need-loop-again Inv-loop μ-loop
 loop-again c =
     let h = c .before .before .before .before .loop in
     let e = ap (wrongSize (h .k)) (sym (c .before .before .region-at .ensures)) ∙ sym (c .before .wrong-size .ensures) in
-    passed-more (h .inv) (omega arith) (e ∙ c .if1 .left)
+    passed-more (h .inv) (omega arith)
+    (e ∙ c .if1 .left)
 
 returns-2 : tie.Need-returns-2 Inv-loop μ-loop
 returns-2 c = passed-all (c .before .loop .inv) (omega arith)

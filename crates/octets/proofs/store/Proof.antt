@@ -36,8 +36,10 @@ same-length c = search needs
 
 returns-2 : tie.Need-returns-2
 returns-2 c =
-    let a = c .before .before .before .before .before .before .before .before .before .args in
-    stored (a .room .now) (a .x .now) _ (a .at) _ (c .before .before .before .before .before .least .ensures) (c .before .before .copy .ensures .1)
+    let y = c .before .before in
+    let k = y .before .before .before in
+    let a = k .before .before .before .before .args in
+    stored (a .room .now) (a .x .now) _ (a .at) _ (k .least .ensures) (y .copy .ensures .1)
 
 pub store-spec : {M : Type 1} → statement M
 store-spec =

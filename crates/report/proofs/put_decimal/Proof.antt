@@ -28,7 +28,8 @@ returns : tie.Need-returns
 returns c =
     let p = c .before .before .put-all in
     let d = c .before .before .before .before .before .decimal in
-    let k = twenty (c .before .before .before .before .before .before .before .before .args .n) (d .result) (d .ensures .1 .0) (omega arith) in
+    let k = twenty (c .before .before .before .before .before .before .before .before .args .n) (d .result)
+    (d .ensures .1 .0) (omega arith) in
     let z = simp length-take at (p .ensures .next) in
     (spelled _ (d .result) _ _ _ _ _ (d .ensures .1 .0) k (d .ensures .1 .1) (p .ensures), omega (arith, z, k))
 

@@ -19,7 +19,8 @@ slice-aggregate-put-all c = search needs
 put-all-requires : tie.Need-put-all-requires
 put-all-requires c κs =
     let h = c .before .before .hex in
-    let k = two-digits (c .before .before .before .before .before .args .b) (h .result) (omega arith) (h .ensures .1 .0 .0) (h .ensures .1 .0 .2) in
+    let k = two-digits (c .before .before .before .before .before .args .b) (h .result) (omega arith)
+    (h .ensures .1 .0 .0) (h .ensures .1 .0 .2) in
     (omega arith, simp length-take (omega (arith, k)))
 
 same-length : tie.Need-same-length
@@ -29,7 +30,9 @@ returns : tie.Need-returns
 returns c =
     let b = c .before .before .before .before .before .before .before .before .args .b in
     let h = c .before .before .before .before .before .hex in
-    spelled-hex b (h .result) _ _ _ _ _ (two-digits b (h .result) (omega arith) (h .ensures .1 .0 .0) (h .ensures .1 .0 .2)) (h .ensures .1 .1) (c .before .before .put-all .ensures)
+    spelled-hex b (h .result) _ _ _ _ _
+    (two-digits b (h .result) (omega arith) (h .ensures .1 .0 .0) (h .ensures .1 .0 .2)) (h .ensures .1 .1)
+    (c .before .before .put-all .ensures)
 
 pub put-hex-spec : {M : Type 1} → statement M
 put-hex-spec =

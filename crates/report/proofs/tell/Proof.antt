@@ -17,15 +17,20 @@ put-all-requires c κs = search needs
 
 put-lines-requires : tie.Need-put-lines-requires
 put-lines-requires c κs =
-    let h = c .before .before .before .before .before .before .before .before .before .before .before in
-    let s = room-for (h .args .o) (length (h .args .room .now)) _ (c .before .before .before .before .before .before .before .o .given .1) (h .pre) in
-    (omega (arith, c .before .before .before .put-all .ensures .next), s .0, s .1)
+    let y = c .before .before .before in
+    let o = y .before .before .before .before in
+    let h = o .before .before .before .before in
+    let s = room-for (h .args .o) (length (h .args .room .now)) _ (o .o .given .1) (h .pre) in
+    (omega (arith, y .put-all .ensures .next), s .0, s .1)
 
 put-totals-requires : tie.Need-put-totals-requires
 put-totals-requires c κs =
-    let h = c .before .before .before .before .before .before .before .before .before .before .before .before .before .before .before in
-    let s = room-for (h .args .o) (length (h .args .room .now)) _ (c .before .before .before .before .before .before .before .before .before .before .before .o .given .1) (h .pre) in
-    omega (arith, s .0, c .before .before .before .before .before .before .before .put-all .ensures .next, c .before .before .before .put-lines .ensures .1)
+    let x = c .before .before .before in
+    let y = x .before .before .before .before in
+    let o = y .before .before .before .before in
+    let h = o .before .before .before .before in
+    let s = room-for (h .args .o) (length (h .args .room .now)) _ (o .o .given .1) (h .pre) in
+    omega (arith, s .0, y .put-all .ensures .next, x .put-lines .ensures .1)
 
 enum-known-o-2 : tie.Need-enum-known-o-2
 enum-known-o-2 c = search needs
@@ -38,16 +43,21 @@ same-length c = search needs
 
 returns : tie.Need-returns
 returns c =
-    let p = c .before .before .before .before .before .before .before .before .before .before .put-all .ensures in
-    let q = c .before .before .before .before .before .before .put-lines .ensures .0 in
+    let x = c .before .before .before .before .before .before in
+    let y = x .before .before .before .before in
+    let o = y .before .before .before .before in
+    let p = y .put-all .ensures in
+    let q = x .put-lines .ensures .0 in
     let r = c .before .before .put-totals .ensures in
-    judged-told _ _ _ _ _ _ _ _ _ _ (c .before .before .before .before .before .before .before .before .before .before .before .before .before .before .o .given .1) p q r
+    judged-told _ _ _ _ _ _ _ _ _ _ (o .o .given .1) p q r
 
 same-length-2 : tie.Need-same-length-2
 same-length-2 c = search needs
 
 returns-2 : tie.Need-returns-2
-returns-2 c = refused-told _ _ _ _ _ _ (c .before .before .before .before .before .o2 .given .1) (c .before .before .put-refusal .ensures)
+returns-2 c =
+    refused-told _ _ _ _ _ _ (c .before .before .before .before .before .o2 .given .1)
+    (c .before .before .put-refusal .ensures)
 
 pub tell-spec : {M : Type 1} → statement M
 tell-spec =

@@ -22,7 +22,9 @@ same-length-3 : tie.Need-same-length-3
 same-length-3 c = search needs
 
 returns : tie.Need-returns
-returns c = whole _ _ _ _ _ _ _ _ _ (c .before .before .before .before .before .before .before .before .before .judge .ensures) (c .before .before .tell .ensures)
+returns c =
+    whole _ _ _ _ _ _ _ _ _ (c .before .before .before .before .before .before .before .before .before .judge .ensures)
+    (c .before .before .tell .ensures)
 
 pub text-spec : {M : Type 1} → statement M
 text-spec =

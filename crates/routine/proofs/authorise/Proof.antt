@@ -19,7 +19,11 @@ refused-requires-2 : tie.Need-refused-requires-2
 refused-requires-2 c κs = search needs
 
 returns-2 : tie.Need-returns-2
-returns-2 c = refuses-old _ _ _ _ (c .before .before .before .if1 .left) _ (sym (c .before .before .greater .ensures) ∙ not-true _ (c .before .if2 .taken)) (c .refused2 .ensures)
+returns-2 c =
+    let y = c .before .before in
+    let z = y .before in
+    refuses-old _ _ _ _ (z .if1 .left) _ (sym (y .greater .ensures) ∙ not-true _ (c .before .if2 .taken))
+    (c .refused2 .ensures)
 
 token-requires : tie.Need-token-requires
 token-requires c κs = search needs
@@ -34,10 +38,23 @@ refused-requires-3 : tie.Need-refused-requires-3
 refused-requires-3 c κs = search needs
 
 returns-3 : tie.Need-returns-3
-returns-3 c = refuses-token _ _ _ _ (c .before .before .before .before .before .before .before .before .if1 .left) (sym (c .before .before .before .before .before .before .before .greater .ensures) ∙ not-false _ (c .before .before .before .before .before .before .if2 .left)) (c .before .before .before .before .before .token .result) (c .before .before .before .before .before .token .ensures) _ (sym (c .before .before .equal .ensures) ∙ not-true _ (c .before .if3 .taken)) (c .refused3 .ensures)
+returns-3 c =
+    let v = c .before .before in
+    let w = v .before .before .before in
+    let x = w .before in
+    let y = x .before in
+    let z = y .before in
+    refuses-token _ _ _ _ (z .if1 .left) (sym (y .greater .ensures) ∙ not-false _ (x .if2 .left)) (w .token .result)
+    (w .token .ensures) _ (sym (v .equal .ensures) ∙ not-true _ (c .before .if3 .taken)) (c .refused3 .ensures)
 
 returns-4 : tie.Need-returns-4
-returns-4 c = authorises _ _ _ _ (c .before .before .before .before .before .before .before .if1 .left) (sym (c .before .before .before .before .before .before .greater .ensures) ∙ not-false _ (c .before .before .before .before .before .if2 .left)) (c .before .before .before .before .token .result) (c .before .before .before .before .token .ensures) (sym (c .before .equal .ensures) ∙ not-false _ (c .if3 .left))
+returns-4 c =
+    let w = c .before .before .before .before in
+    let x = w .before in
+    let y = x .before in
+    let z = y .before in
+    authorises _ _ _ _ (z .if1 .left) (sym (y .greater .ensures) ∙ not-false _ (x .if2 .left)) (w .token .result)
+    (w .token .ensures) (sym (c .before .equal .ensures) ∙ not-false _ (c .if3 .left))
 
 pub authorise-spec : {M : Type 1} → statement M
 authorise-spec =

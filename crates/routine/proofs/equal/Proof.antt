@@ -12,7 +12,8 @@ use Rattle.routine.proofs.equal.Statement.{statement}
 use Rattle.routine.proofs.equal.Tie as tie
 
 abbrev Inv-loop : tie.InvT-loop
-Inv-loop a b differing₀ at₀ differing at = (at ≤ length a) × (length a ≡ length b) × (same a b ≡ (eqb differing 0 && same (drop at a) (drop at b)))
+Inv-loop a b differing₀ at₀ differing at =
+    (at ≤ length a) × (length a ≡ length b) × (same a b ≡ (eqb differing 0 && same (drop at a) (drop at b)))
 
 abbrev μ-loop : tie.MeasureT-loop
 μ-loop a b differing₀ at₀ differing at = length a - at
@@ -38,14 +39,19 @@ loop-less c = search needs
 loop-again : tie.Need-loop-again Inv-loop μ-loop
 loop-again c =
     let z = c .before .before .before in
-    let l = z .loop in
-    (omega arith, l .inv .1, same-more (z .before .before .args .a .now) (z .before .before .args .b .now) (l .differing) (l .at) (omega arith) (omega arith) (l .inv .2))
+    let l = z .loop in (
+      omega arith,
+      l .inv .1,
+      same-more (z .before .before .args .a .now) (z .before .before .args .b .now)
+          (l .differing) (l .at) (omega arith) (omega arith) (l .inv .2),
+    )
 
 returns-2 : tie.Need-returns-2 Inv-loop μ-loop
 returns-2 c =
     let z = c .before in
     let l = z .loop in
-    same-whole (z .before .before .args .a .now) (z .before .before .args .b .now) (l .differing) (l .at) (omega arith) (omega arith) (l .inv .2)
+    same-whole (z .before .before .args .a .now) (z .before .before .args .b .now) (l .differing) (l .at) (omega arith)
+    (omega arith) (l .inv .2)
 
 pub equal-spec : {M : Type 1} → statement M
 equal-spec =

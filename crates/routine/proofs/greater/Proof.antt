@@ -21,7 +21,8 @@ loop-holds c = (omega arith, refl)
 returns : tie.Need-returns Inv-loop μ-loop
 returns c =
     let z = c .before .before in
-    greater-short (z .before .args .a .now) (z .before .args .b .now) (z .loop .i) (omega arith) (z .loop .inv .1) (omega arith)
+    greater-short (z .before .args .a .now) (z .before .args .b .now) (z .loop .i) (omega arith) (z .loop .inv .1)
+    (omega arith)
 
 shared-slice-read-x : tie.Need-shared-slice-read-x Inv-loop μ-loop
 shared-slice-read-x c = search needs
@@ -32,7 +33,8 @@ shared-slice-read-y c = search needs
 returns-2 : tie.Need-returns-2 Inv-loop μ-loop
 returns-2 c =
     let z = c .before .before .before .before .before in
-    greater-differ (z .before .args .a .now) (z .before .args .b .now) (z .loop .i) (omega arith) (z .loop .inv .1) (omega arith) (c .if2 .taken)
+    greater-differ (z .before .args .a .now) (z .before .args .b .now) (z .loop .i) (omega arith) (z .loop .inv .1)
+    (omega arith) (c .if2 .taken)
 
 add-i : tie.Need-add-i Inv-loop μ-loop
 add-i c = search needs
@@ -42,8 +44,11 @@ loop-less c = search needs
 
 loop-again : tie.Need-loop-again Inv-loop μ-loop
 loop-again c =
-    let z = c .before .before .before .before .before in
-    (omega arith, greater-more (z .before .args .a .now) (z .before .args .b .now) (z .loop .i) (omega arith) (z .loop .inv .1) (omega arith) (c .if2 .left))
+    let z = c .before .before .before .before .before in (
+      omega arith,
+      greater-more (z .before .args .a .now) (z .before .args .b .now) (z .loop .i) (omega arith)
+          (z .loop .inv .1) (omega arith) (c .if2 .left),
+    )
 
 returns-3 : tie.Need-returns-3 Inv-loop μ-loop
 returns-3 c =

@@ -20,7 +20,10 @@ reply-to-requires : tie.Need-reply-to-requires
 reply-to-requires c κs = search needs
 
 returns-2 : tie.Need-returns-2
-returns-2 c = reply-made _ _ _ (c .before .before .before .token .result) _ (c .before .before .before .before .if1 .left) (c .before .before .before .token .ensures) (c .reply-to .ensures)
+returns-2 c =
+    let y = c .before .before .before in
+    let z = y .before in
+    reply-made _ _ _ (y .token .result) _ (z .if1 .left) (y .token .ensures) (c .reply-to .ensures)
 
 pub reply-spec : {M : Type 1} → statement M
 reply-spec =

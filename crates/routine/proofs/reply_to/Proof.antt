@@ -21,7 +21,10 @@ mac-requires-2 : tie.Need-mac-requires-2
 mac-requires-2 c κs = search needs
 
 returns-2 : tie.Need-returns-2
-returns-2 c = reply-to-made _ _ _ (c .before .before .before .mac .result) _ (c .before .before .before .before .if1 .left) (c .before .before .before .mac .ensures) (c .mac2 .ensures)
+returns-2 c =
+    let y = c .before .before .before in
+    let z = y .before in
+    reply-to-made _ _ _ (y .mac .result) _ (z .if1 .left) (y .mac .ensures) (c .mac2 .ensures)
 
 pub reply-to-spec : {M : Type 1} → statement M
 reply-to-spec =

@@ -5,7 +5,7 @@ use Rattle.runfile.proofs.check_bodies.Statement.{statement}
 use Rattle.runfile.proofs.check_bodies.Tie as tie
 
 check-segments-requires : tie.Need-check-segments-requires
-check-segments-requires c κs = search needs
+check-segments-requires c κs = tt
 
 enum-told : tie.Need-enum-told
 enum-told c = search needs
@@ -19,12 +19,14 @@ enum-known-r c = search needs
 returns : tie.Need-returns
 returns c =
     let h = c .before .before .before .before .before .before .args in
-    then-done (h .body .now) (h .trace .now) (h .room) _ (c .before .before .before .check-segments .ensures) _ (c .before .enum-told .given .1) (c .fits2 .ensures)
+    then-done (h .segments .now) (h .trace .now) (h .room) _ (c .before .before .before .check-segments .ensures) _
+    (c .before .enum-told .given .1) (c .fits2 .ensures)
 
 returns-2 : tie.Need-returns-2
 returns-2 c =
     let h = c .before .before .before .before .before .before .args in
-    then-refused (h .body .now) (h .trace .now) (h .room) _ (c .before .before .before .check-segments .ensures) _ (c .before .r .given .1)
+    then-refused (h .segments .now) (h .trace .now) (h .room) _ (c .before .before .before .check-segments .ensures) _
+    (c .before .r .given .1)
 
 pub check-bodies-spec : {M : Type 1} → statement M
 check-bodies-spec =

@@ -24,11 +24,13 @@ put-requires c κs = search needs
 
 returns : tie.Need-returns
 returns c =
-    let z = c .before .before .before .before .args in
+    let y = c .before .before .before .before in
+    let z = y .args in
     let l : length (z .t1) ≡ 64 = search needs in
     c .put .ensures
     ∙ ap (λ (b : List ℕ). paste b (z .at) (z .x .now) (length (z .x .now))) (c .before .block-of .ensures)
-    ∙ block-joined (take (z .at) (z .t1)) (z .x .now) (z .at) (length-take-le (z .at) (z .t1) (omega arith)) (omega arith)
+    ∙ block-joined (take (z .at) (z .t1)) (z .x .now) (z .at) (length-take-le (z .at) (z .t1) (omega arith))
+    (omega arith)
 
 pub part-spec : {M : Type 1} → statement M
 part-spec =

@@ -28,7 +28,15 @@ add-requires-8 : tie.Need-add-requires-8
 add-requires-8 c κs = tt
 
 returns : tie.Need-returns
-returns c = eight _ _ _ _ _ _ _ _ _ _ _ _ _ _ _ _ (c .before .before .before .before .before .before .before .add .ensures) (c .before .before .before .before .before .before .add2 .ensures) (c .before .before .before .before .before .add3 .ensures) (c .before .before .before .before .add4 .ensures) (c .before .before .before .add5 .ensures) (c .before .before .add6 .ensures) (c .before .add7 .ensures) (c .add8 .ensures)
+returns c =
+    let u = c .before .before in
+    let v = u .before in
+    let w = v .before in
+    let x = w .before in
+    let y = x .before in
+    let z = y .before in
+    eight _ _ _ _ _ _ _ _ _ _ _ _ _ _ _ _ (z .add .ensures) (y .add2 .ensures) (x .add3 .ensures) (w .add4 .ensures)
+    (v .add5 .ensures) (u .add6 .ensures) (c .before .add7 .ensures) (c .add8 .ensures)
 
 pub add-to-spec : {M : Type 1} → statement M
 add-to-spec =

@@ -52,8 +52,11 @@ loop-again : tie.Need-loop-again Inv-loop μ-loop
 loop-again c =
     let l = c .before .before .before .before in
     let z = l .before .before .args in
-    let k = l .loop .i * 64 + 64 - l .loop .i * 64 in
-    (omega arith, blocks-more (z .words) (z .bytes .now) (l .loop .w) (c .compress .result) (l .loop .i) k (omega arith) (l .loop .inv .1) (c .compress .ensures))
+    let k = l .loop .i * 64 + 64 - l .loop .i * 64 in (
+      omega arith,
+      blocks-more (z .words) (z .bytes .now) (l .loop .w) (c .compress .result) (l .loop .i) k (omega arith)
+          (l .loop .inv .1) (c .compress .ensures),
+    )
 
 returns : tie.Need-returns Inv-loop μ-loop
 returns c =

@@ -18,8 +18,12 @@ add-to-requires c κs = tt
 
 returns : tie.Need-returns
 returns c =
-    let h = c .before .before .before .before .before .before .args in
-    compressed (h .s) (h .m .now) _ _ _ _ (c .before .before .before .before .schedule .ensures) (c .before .before .before .load .ensures) (c .before .rounds .ensures) (c .add-to .ensures)
+    let x = c .before .before .before in
+    let y = x .before in
+    let z = y .before .before in
+    let h = z .args in
+    compressed (h .s) (h .m .now) _ _ _ _ (y .schedule .ensures) (x .load .ensures) (c .before .rounds .ensures)
+    (c .add-to .ensures)
 
 pub compress-spec : {M : Type 1} → statement M
 compress-spec =

@@ -22,7 +22,11 @@ add-requires-3 c κs = tt
 returns : tie.Need-returns
 unfolding next
 returns c =
-    add-left _ _ _ _ (c .add3 .ensures) (add-both _ _ _ _ _ (c .before .add2 .ensures) (add-left _ _ _ _ (c .before .before .before .add .ensures) (c .before .before .before .before .small-sigma1 .ensures)) (c .before .before .small-sigma0 .ensures))
+    let x = c .before .before in
+    let y = x .before in
+    let z = y .before in
+    add-left _ _ _ _ (c .add3 .ensures) (add-both _ _ _ _ _ (c .before .add2 .ensures)
+    (add-left _ _ _ _ (y .add .ensures) (z .small-sigma1 .ensures)) (x .small-sigma0 .ensures))
 
 pub next-word-spec : {M : Type 1} → statement M
 next-word-spec =

@@ -39,8 +39,12 @@ loop-less c = search needs
 
 loop-again : tie.Need-loop-again Inv-loop μ-loop
 loop-again c =
-    let l = c .before .before in
-    (omega arith, simp length-set (omega arith), words-more (l .before .before .args .m .now) (l .loop .w) (l .loop .i) (c .word-at .result) (omega arith) (l .loop .inv .2) (c .word-at .ensures))
+    let l = c .before .before in (
+      omega arith,
+      simp length-set (omega arith),
+      words-more (l .before .before .args .m .now) (l .loop .w) (l .loop .i)
+          (c .word-at .result) (omega arith) (l .loop .inv .2) (c .word-at .ensures),
+    )
 
 returns : tie.Need-returns Inv-loop μ-loop
 returns c =

@@ -40,11 +40,20 @@ add-requires-7 c κs = tt
 returns : tie.Need-returns
 unfolding round
 returns c =
-    let h1 = add-right _ _ _ _ (c .before .before .before .before .before .before .before .before .before .add .ensures) (c .before .before .before .before .before .before .before .before .before .before .big-sigma1 .ensures) in
-    let h2 = add-both _ _ _ _ _ (c .before .before .before .before .before .before .before .add2 .ensures) h1 (c .before .before .before .before .before .before .before .before .ch .ensures) in
-    let t1 = add-left _ _ _ _ (c .before .before .before .before .before .add4 .ensures) (add-left _ _ _ _ (c .before .before .before .before .before .before .add3 .ensures) h2) in
-    let t2 = add-both _ _ _ _ _ (c .before .before .add5 .ensures) (c .before .before .before .before .big-sigma0 .ensures) (c .before .before .before .maj .ensures) in
-    vars-with (c .before .before .before .before .before .before .before .before .before .before .before .args .v) _ _ _ _ (add-both _ _ _ _ _ (c .before .add6 .ensures) t1 t2) (add-right _ _ _ _ (c .add7 .ensures) t1)
+    let s = c .before .before .before .before .before in
+    let t = s .before in
+    let u = t .before in
+    let w = u .before in
+    let x = w .before in
+    let y = x .before in
+    let z = y .before in
+    let h1 = add-right _ _ _ _ (x .add .ensures) (y .big-sigma1 .ensures) in
+    let h2 = add-both _ _ _ _ _ (u .add2 .ensures) h1 (w .ch .ensures) in
+    let t1 = add-left _ _ _ _ (s .add4 .ensures) (add-left _ _ _ _ (t .add3 .ensures) h2) in
+    let t2 = add-both _ _ _ _ _ (c .before .before .add5 .ensures)
+    (c .before .before .before .before .big-sigma0 .ensures) (c .before .before .before .maj .ensures) in
+    vars-with (z .args .v) _ _ _ _ (add-both _ _ _ _ _ (c .before .add6 .ensures) t1 t2)
+    (add-right _ _ _ _ (c .add7 .ensures) t1)
 
 pub round-spec : {M : Type 1} → statement M
 round-spec =

@@ -104,13 +104,16 @@ loop-less c = search needs
 
 loop-again : tie.Need-loop-again Inv-loop μ-loop
 loop-again c =
-    let r1 = c .before .before .before .before .before .before .before .before .before in
-    let r2 = c .before .before .before .before .before .before in
     let r3 = c .before .before .before in
+    let r2 = r3 .before .before .before in
+    let r1 = r2 .before .before .before in
     let l = r1 .before .before .before .before in (
       omega arith,
       omega arith,
-      rounds-four (l .before .args .k .now) (l .before .args .w .now) (l .before .args .v) (l .loop .u) (r1 .round .result) (r2 .round2 .result) (r3 .round3 .result) (c .round4 .result) (l .loop .t) (l .before .pre) (l .loop .inv .2) (r1 .round .ensures) (r2 .round2 .ensures) (r3 .round3 .ensures) (c .round4 .ensures),
+      rounds-four (l .before .args .k .now) (l .before .args .w .now) (l .before .args .v) (l .loop .u)
+          (r1 .round .result) (r2 .round2 .result) (r3 .round3 .result) (c .round4 .result) (l .loop .t)
+          (l .before .pre)
+          (l .loop .inv .2) (r1 .round .ensures) (r2 .round2 .ensures) (r3 .round3 .ensures) (c .round4 .ensures),
     )
 
 returns : tie.Need-returns Inv-loop μ-loop

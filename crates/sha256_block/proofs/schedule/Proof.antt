@@ -73,9 +73,12 @@ loop-less c = search needs
 
 loop-again : tie.Need-loop-again Inv-loop μ-loop
 loop-again c =
-    let l = c .before .before .loop in
-    let z = c .before .before .before .before .before .args in
-    let s = schedule-carried (z .m .now) (l .w) (l .t) (l .w2) (l .w1) (c .next-word .result) (omega arith) (l .inv .2) (l .inv .3) (l .inv .4) (c .next-word .ensures) in
+    let x = c .before .before in
+    let y = x .before .before .before in
+    let l = x .loop in
+    let z = y .args in
+    let s = schedule-carried (z .m .now) (l .w) (l .t) (l .w2) (l .w1) (c .next-word .result) (omega arith) (l .inv .2)
+    (l .inv .3) (l .inv .4) (c .next-word .ensures) in
     (omega arith, simp length-set (omega arith), s .0, s .1, s .2)
 
 returns : tie.Need-returns Inv-loop μ-loop

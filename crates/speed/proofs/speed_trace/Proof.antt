@@ -17,7 +17,8 @@ same-length-2 : tie.Need-same-length-2
 same-length-2 c = search needs
 
 returns : tie.Need-returns
-returns c = trace-number _ _ _ _ _ _ _ _ (c .before .before .before .before .before .trace .ensures) (c .traced .ensures)
+returns c =
+    trace-number _ _ _ _ _ _ _ _ (c .before .before .before .before .before .trace .ensures) (c .traced .ensures)
 
 pub speed-trace-spec : {M : Type 1} → statement M
 speed-trace-spec =

@@ -21,10 +21,14 @@ same-length c = search needs
 
 returns-2 : tie.Need-returns-2
 returns-2 c =
-    let z = c .before .before .before .before .before .before .before in
-    let e : 0 + length (z .args .bytes .now) ≡ 32 = omega arith in
+    let a = c .before .before .before .before .before .before .before .args in
+    let b = a .bytes .now in
+    let room = a .room .now in
+    let e : 0 + length b ≡ 32 = omega arith in
     simp (le-ltb _ _ (c .before .before .before .before .if1 .left))
-    (c .before .before .store .ensures ∙ sets-eq (z .args .bytes .now) (z .args .room .now) 0 (omega arith) ∙ ap (λ (k : ℕ). z .args .bytes .now ++ drop k (z .args .room .now)) e)
+    (c .before .before .store .ensures
+    ∙ sets-eq b room 0 (omega arith)
+    ∙ ap (λ (k : ℕ). b ++ drop k room) e)
 
 pub store-spec : {M : Type 1} → statement M
 store-spec = tie.close (tie.spec returns store-requires same-length returns-2)

@@ -18,10 +18,18 @@ equal-requires : tie.Need-equal-requires
 equal-requires c κs = search needs
 
 returns-2 : tie.Need-returns-2
-returns-2 c = check-yes _ _ _ _ (c .before .before .before .before .before .if1 .left) (c .before .before .before .before .reply .result) (c .before .before .before .before .reply .ensures) (sym (c .before .equal .ensures) ∙ c .if2 .taken)
+returns-2 c =
+    let y = c .before .before .before .before in
+    let z = y .before in
+    check-yes _ _ _ _ (z .if1 .left) (y .reply .result) (y .reply .ensures)
+    (sym (c .before .equal .ensures) ∙ c .if2 .taken)
 
 returns-3 : tie.Need-returns-3
-returns-3 c = check-no _ _ _ _ (c .before .before .before .before .before .if1 .left) (c .before .before .before .before .reply .result) (c .before .before .before .before .reply .ensures) (sym (c .before .equal .ensures) ∙ c .if2 .left)
+returns-3 c =
+    let y = c .before .before .before .before in
+    let z = y .before in
+    check-no _ _ _ _ (z .if1 .left) (y .reply .result) (y .reply .ensures)
+    (sym (c .before .equal .ensures) ∙ c .if2 .left)
 
 pub check-spec : {M : Type 1} → statement M
 check-spec =

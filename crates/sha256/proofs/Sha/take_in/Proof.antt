@@ -17,18 +17,29 @@ refused-requires c κs = tt
 
 returns : tie.Need-returns
 returns c =
-    let z = c .before .before .before .before .args in
-    takes-in-refused (z .self) (z .bytes .now) (c .refused .result) (c .refused .ensures) (sym (c .before .before .over .ensures) ∙ c .before .if1 .taken)
+    let x = c .before .before in
+    let y = x .before .before in
+    let z = y .args in
+    takes-in-refused (z .self) (z .bytes .now) (c .refused .result) (c .refused .ensures)
+    (sym (x .over .ensures) ∙ c .before .if1 .taken)
 
 absorb-requires : tie.Need-absorb-requires
 absorb-requires c κs =
-    let z = c .before .before .before .args in
-    omega (arith, ltb-false limit (z .self .total + length (z .bytes .now)) (sym (c .before .over .ensures) ∙ c .if1 .left))
+    let y = c .before .before .before in
+    let z = y .args in
+    omega (
+      arith,
+      ltb-false limit (z .self .total + length (z .bytes .now))
+          (sym (c .before .over .ensures) ∙ c .if1 .left),
+    )
 
 returns-2 : tie.Need-returns-2
 returns-2 c =
-    let z = c .before .before .before .before .args in
-    takes-in-done (z .self) (z .bytes .now) (c .absorb .result) (sym (c .before .before .over .ensures) ∙ c .before .if1 .left) (c .absorb .ensures)
+    let x = c .before .before in
+    let y = x .before .before in
+    let z = y .args in
+    takes-in-done (z .self) (z .bytes .now) (c .absorb .result) (sym (x .over .ensures) ∙ c .before .if1 .left)
+    (c .absorb .ensures)
 
 pub take-in-spec : {M : Type 1} → statement M
 take-in-spec =

@@ -1,0 +1,3 @@
+pub mod Accepts
+pub mod Posted
+pub mod Demand2

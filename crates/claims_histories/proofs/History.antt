@@ -1,0 +1,300 @@
+-- The claims about the counter's history hold. Assumes nothing.
+use mathlib.Core.Path.{_≡_, refl, sym, ap, subst, _∙_}
+use mathlib.Core.Logic.{_≢_, _⊎_, inl, inr}
+use mathlib.Core.Bool.{true, false, or-true}
+use mathlib.Core.List.{List}
+use Prim.Native.Nat.{ℕ, zero, suc, _≤_, _<_}
+use native.Mathlib.Omega.{arith}
+use lib.Dec.{eqb, ltb}
+use lib.ListN.{length}
+use borrow.Author.Tests.{eqb-true, eqb-false, ltb-true, ltb-false}
+use Rattle.notions.specs.Bytes.{Bytes}
+use Rattle.refusal.specs.Answers.{afterCall}
+use Rattle.refusal.specs.Settled.{row-settled}
+use Rattle.refusal.specs.declared.Answer.{Answer}
+use Rattle.refusal.specs.declared.Answer.the-variants.{Done, Refused}
+use Rattle.notions.proofs.Tests.{cases, clash, untrue}
+use Rattle.layout.specs.declared.Layout.{Layout}
+use Rattle.layout.specs.Regions.{within}
+use Rattle.layout.specs.Layouts.{layoutOf}
+use Rattle.layout.specs.Calls.{memoryBytes, callCheck}
+use Rattle.layout.specs.Good.{Good}
+use Rattle.steps.specs.declared.Step.{Step}
+use Rattle.effects.specs.Effects.{written}
+use Rattle.monitor.specs.Runs.{State, begin, before, memoryAfter}
+use Rattle.traces.specs.Traces.{count, steps}
+use Rattle.traces.specs.Traces.{traceCheck, stepCheck}
+use Rattle.routine.specs.Strings.{greater}
+use Rattle.routine.specs.Routine.{token}
+use Rattle.routine.proofs.Order.{greater-irreflexive, greater-trans, weight-greater}
+use Rattle.board.specs.Memory.{key, counter, challenge}
+use Rattle.board.specs.Attestation.{attestCheck, accepted}
+use Rattle.board.specs.Promises.{Attests}
+use Rattle.board.proofs.Stores.{bytes-read}
+use Rattle.board.proofs.Laws.{region-agrees, length-challenge, allowed-done, attested-done, attested-refused}
+use Rattle.claims_monitor.specs.Traces.{remembers, byteAt}
+use Rattle.claims_attestation.specs.Demand2.{posted}
+use Rattle.claims_histories.specs.History as claim
+use Rattle.claims_histories.specs.History.{Event, attest, trace, change, Keeps, storesCounter, Happens, History}
+use Rattle.claims_histories.specs.History.{Accepted, counterAt}
+use Rattle.conditions.proofs.Answers.{lent-either}
+use Rattle.claims_attestation.proofs.Accepts.{accepts}
+use Rattle.claims_attestation.proofs.Posted.{request-long, request-is, request-code, request-key, request-counter}
+use Rattle.claims_attestation.proofs.Posted.{request-done}
+use Rattle.claims_monitor.proofs.Traces.{length-kept, stays-through, rom, guarded}
+
+-- ---- a trace
+
+-- a byte of CTR stays at a step at which the attestation code does not store there
+counter-stays : (l : Layout) (t : ℕ → Step) (x : State) (n a : ℕ) → within (l .ctr) a ≡ true
+    → storesCounter l (remembers l t x n) (t n) ≡ false → byteAt l t x (suc n) a ≡ byteAt l t x n a
+counter-stays l t x n a w e =
+    elim (guarded l t x n a (simp w)) [
+      | inl stays ↦ stays
+      | inr c ↦
+          clash (storesCounter l (remembers l t x n) (t n)) (simp (c .passes, c .inside, c .writes, c .address, w)) e
+    ]
+
+-- a run in which the attestation code leaves CTR alone keeps CR, KR and CTR
+run-keeps : (l : Layout) (t : ℕ → Step) (x : State) (n : ℕ)
+    → ((i : ℕ) → i < n → storesCounter l (remembers l t x i) (t i) ≡ false)
+    → Keeps l (x .memory) (before l t x n .memory)
+run-keeps l t x n f =
+    let y = before l t x n .memory in
+    let e = length-kept l t x n in
+    record {
+      long = e;
+      code = region-agrees (l .cr) y (x .memory) e (λ a w. rom l t x n a (simp w));
+      key = region-agrees (l .kr) y (x .memory) e (λ a w. rom l t x n a (simp (w, or-true)));
+      counter =
+          region-agrees (l .ctr) y (x .memory) e
+          (λ a w. stays-through l t x n a (λ i h. counter-stays l t x i a w (f i h)));
+    }
+
+-- a call that keeps them where it is not refused keeps them
+lent-keeps : (l : Layout) (a : Answer) (x y z : List ℕ) → z ≡ afterCall a y x → Keeps l x y → Keeps l x z
+lent-keeps l a x y z e k =
+    subst (Keeps l x) (sym e)
+    (lent-either (λ f. Keeps l x (f y x)) a k (record { long = refl; code = refl; key = refl; counter = refl }))
+
+pub trace-keeps : claim.TraceKeeps
+trace-keeps memory layout b room memory′ room′ r t f =
+    let l = layoutOf layout in
+    lent-keeps l (callCheck memory layout (traceCheck b (length room))) memory (memoryAfter l b memory) memory′
+    (t .memory-left)
+    (run-keeps l (steps b) (begin memory) (count b) f)
+
+pub step-keeps : claim.StepKeeps
+unfolding before
+step-keeps memory layout step m room memory′ room′ r p e =
+    let l = layoutOf layout in
+    let s = steps step 0 in
+    lent-keeps l (callCheck memory layout (stepCheck step (length room))) memory (decidedMemory l m s memory) memory′
+    (p .memory-left)
+    (run-keeps l (λ i. s) (record { monitor = m; memory = memory }) 1 (λ i h. let z : i ≡ 0 = omega arith in rw z e))
+
+-- ---- one event
+
+-- an accepted call: its challenge is greater than the counter, and the counter afterwards
+record Raises (l : Layout) (x y : List ℕ) : Type 0 where
+  fresh : greater (challenge l x) (counter l x) ≡ true
+  counted : counter l y ≡ challenge l x
+  long : length (challenge l x) ≡ 32
+
+raises : (layout x y : List ℕ) → Bytes layout → Attests x layout y Done → Raises (layoutOf layout) x y
+raises layout x y h p =
+    let c = accepts x layout y h p in
+    record {
+      fresh = c .allowed .fresh;
+      counted = c .served .counted;
+      long = length-challenge (layoutOf layout) (c .lies) x (c .allowed .long);
+    }
+
+-- b is a or greater
+abbrev Rises : List ℕ → List ℕ → Type 0
+Rises a b = (b ≡ a) ⊎ (greater b a ≡ true)
+
+rises-on : (a b c : List ℕ) → Rises a b → Rises b c → Rises a c
+rises-on a b c p q =
+    elim p [
+      | inl e ↦ subst (λ (s : List ℕ). Rises s c) e q
+      | inr g ↦ elim q [ inl e ↦ inr (rw e g) | inr f ↦ inr (greater-trans c b a f g) ]
+    ]
+
+event-rises : (layout : List ℕ) → Bytes layout → (e : Event) (x y : List ℕ) → Happens layout e x y
+    → Rises (counter (layoutOf layout) x) (counter (layoutOf layout) y)
+event-rises layout h (attest Done) x y p =
+    let a = raises layout x y h p in
+    inr (rw (a .counted) (a .fresh))
+event-rises layout h (attest (Refused r)) x y p =
+    inl (ap (λ (m : List ℕ). counter (layoutOf layout) m) (attested-refused x layout y r p .1))
+event-rises layout h (trace b r) x y p =
+    inl (trace-keeps x layout b (p .0 .0) y (p .0 .1) r (p .0 .2) (p .1) .counter)
+event-rises layout h change x y p = inl (p .counter)
+
+-- ---- over every history
+
+pub counter-rises : claim.CounterRises
+counter-rises h i zero p q =
+    let e : 0 ≡ i = omega arith in
+    inl (ap (counterAt h) e)
+counter-rises h i (suc j) p q =
+    cases (eqb i (suc j)) (λ t. inl (ap (counterAt h) (sym (eqb-true i (suc j) t))))
+    (λ t.
+    let o : i ≢ suc j = eqb-false i (suc j) t in
+    rises-on (counterAt h i) (counterAt h j) (counterAt h (suc j)) (counter-rises h i j (omega arith) (omega arith))
+    (event-rises (h .layout) (h .in-bytes) (h .events j) (h .memories j) (h .memories (suc j)) (h .happens j q)))
+
+-- what is greater than a string is greater than all that it has risen from
+greater-rises : (a b c : List ℕ) → Rises a b → greater c b ≡ true → greater c a ≡ true
+greater-rises a b c p g = elim p [ inl e ↦ rw (← e) g | inr f ↦ greater-trans c b a g f ]
+
+pub old-stays-old : claim.OldStaysOld
+old-stays-old h i j p q c e =
+    untrue (greater c (counterAt h j))
+    (λ g. clash (greater c (counterAt h i))
+    (greater-rises (counterAt h i) (counterAt h j) c (counter-rises h i j p q) g) e)
+
+accepted-raises : (h : History) (i : ℕ) (c : List ℕ) → Accepted h i c
+    → Raises (layoutOf (h .layout)) (h .memories i) (h .memories (suc i))
+accepted-raises h i c a =
+    raises (h .layout) (h .memories i) (h .memories (suc i)) (h .in-bytes)
+    (subst (λ (e : Event). Happens (h .layout) e (h .memories i) (h .memories (suc i))) (a .event)
+    (h .happens i (a .happened)))
+
+pub increase : claim.Increase
+increase h i j c d a b t =
+    let p = accepted-raises h i c a in
+    let q = accepted-raises h j d b in
+    let n = b .happened in
+    rw (a .request, b .request, ← p .counted)
+    (greater-rises (counterAt h (suc i)) (counterAt h j) (challenge (layoutOf (h .layout)) (h .memories j))
+    (counter-rises h (suc i) j t (omega arith)) (q .fresh))
+
+pub numbers-increase : claim.NumbersIncrease
+numbers-increase h i j c d u v a b t =
+    let p = accepted-raises h i c a in
+    let q = accepted-raises h j d b in
+    let at = layoutOf (h .layout) .mr .lo in
+    weight-greater d c (ap length (b .request) ∙ q .long ∙ sym (ap length (a .request) ∙ p .long))
+    (rw (b .request) (bytes-read (h .memories j) at 32 v))
+    (rw (a .request) (bytes-read (h .memories i) at 32 u))
+    (increase h i j c d a b t)
+
+earlier-or-later : {P : Type 0} (i j : ℕ) → (i < j → P) → (j < i → P) → (i ≡ j → P) → P
+earlier-or-later i j f g h =
+    cases (ltb i j) (λ t. f (ltb-true i j t))
+    (λ t. cases (ltb j i) (λ o. g (ltb-true j i o)) (λ o. h (between (ltb-false j i o) (ltb-false i j t))))
+  where
+    between : i ≤ j → j ≤ i → i ≡ j
+    between p q = omega arith
+
+-- a challenge that is greater than itself
+never : {P : Type 0} (c : List ℕ) → greater c c ≡ true → P
+never c g = clash (greater c c) g (greater-irreflexive c)
+
+pub never-twice : claim.NeverTwice
+never-twice h i j c a b =
+    earlier-or-later i j (λ t. never c (increase h i j c c a b t)) (λ t. never c (increase h j i c c b a t)) (λ e. e)
+
+pub later-is-larger : claim.LaterIsLarger
+later-is-larger h i j c d a b = (
+  increase h i j c d a b,
+  λ g. earlier-or-later i j
+      (λ t. t)
+      (λ t. never d (greater-trans d c d g (increase h j i d c b a t)))
+      (λ e.
+      let f : d ≡ c =
+      b .request ∙ ap (λ (m : ℕ). challenge (layoutOf (h .layout)) (h .memories m)) (sym e) ∙ sym (a .request) in
+      never c (rw f at g)),
+)
+
+-- ---- a history with two requests
+
+-- a request for c in the mailbox, a change that keeps CR, KR and CTR: it is accepted
+record Exchange (layout memory c : List ℕ) : Type 0 where
+  request : List ℕ
+  after : List ℕ
+  keeps : Keeps (layoutOf layout) memory request
+  asks : c ≡ challenge (layoutOf layout) request
+  serves : Attests request layout after Done
+  counted : counter (layoutOf layout) after ≡ c
+  long : length after ≡ memoryBytes
+
+exchange : (layout : List ℕ) → Bytes layout → Good layout → (memory c : List ℕ) → length memory ≡ memoryBytes
+    → length c ≡ 32
+    → greater c (counter (layoutOf layout) memory) ≡ true → Exchange layout memory c
+exchange layout b good memory c long lc fresh =
+    let l = layoutOf layout in
+    let t = token (key l memory) c in
+    let m = posted l c t memory in
+    let keeps : Keeps l memory m =
+    record {
+      long = request-long layout b good memory c t long lc refl;
+      code = request-code layout b good memory c t long lc refl;
+      key = request-key layout b good memory c t long lc refl;
+      counter = request-counter layout b good memory c t long lc refl;
+    } in
+    let is = request-is layout b good memory c t long lc refl in
+    let done = request-done layout b good memory c t long lc refl fresh in
+    let serves : Attests m layout (accepted l m) Done = record { answered = simp done; memory-left = simp done } in
+    let s = accepts m layout (accepted l m) b serves .served in
+    record {
+      request = m;
+      after = accepted l m;
+      keeps = keeps;
+      asks = sym is;
+      serves = serves;
+      counted = s .counted ∙ is;
+      long = s .long ∙ keeps .long ∙ long;
+    }
+
+pub both-served : claim.BothServed
+both-served memory layout c d b long good lc ld fresh rises =
+    let p = exchange layout b good memory c long lc fresh in
+    let q = exchange layout b good (p .after) d (p .long) ld (rw (p .counted) rises) in
+    let m : ℕ → List ℕ = memories memory (p .request) (p .after) (q .request) (q .after) in (
+      record {
+        layout = layout;
+        in-bytes = b;
+        n = 4;
+        events = events;
+        memories = m;
+        happens = λ i h. four m i h (p .keeps) (p .serves) (q .keeps) (q .serves);
+      },
+      refl,
+      refl,
+      record { happened = omega arith; event = refl; request = p .asks },
+      record { happened = omega arith; event = refl; request = q .asks },
+    )
+  where
+    events : ℕ → Event
+    events zero = change
+    events (suc zero) = attest Done
+    events (suc (suc zero)) = change
+    events (suc (suc (suc i))) = attest Done
+
+    memories : List ℕ → List ℕ → List ℕ → List ℕ → List ℕ → ℕ → List ℕ
+    memories a b c d e zero = a
+    memories a b c d e (suc zero) = b
+    memories a b c d e (suc (suc zero)) = c
+    memories a b c d e (suc (suc (suc zero))) = d
+    memories a b c d e (suc (suc (suc (suc i)))) = e
+
+    four : (m : ℕ → List ℕ) (i : ℕ) → i < 4 → Happens layout change (m 0) (m 1)
+        → Happens layout (attest Done) (m 1) (m 2)
+        → Happens layout change (m 2) (m 3) → Happens layout (attest Done) (m 3) (m 4)
+        → Happens layout (events i) (m i) (m (suc i))
+    four m zero h p q r s = p
+    four m (suc zero) h p q r s = q
+    four m (suc (suc zero)) h p q r s = r
+    four m (suc (suc (suc zero))) h p q r s = s
+    four m (suc (suc (suc (suc i)))) h p q r s = absurd (omega arith)
+
+-- ---- a counter that falls back
+
+pub fallen-back : claim.FallenBack
+fallen-back layout x x′ y y′ r p q long ek ec et fresh =
+    let a = attested-done x layout x′ p .0 in
+    row-settled r (attestCheck y layout) (q .answered)
+    ∙ allowed-done y layout (record { long = long ∙ a .long; laid = a .laid; fresh = fresh; genuine = cc (a .genuine) })

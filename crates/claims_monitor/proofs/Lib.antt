@@ -1,0 +1,12 @@
+pub mod Marked
+pub mod Causes
+pub mod Exposed
+pub mod Runs
+pub mod Traces
+pub mod Vrased
+pub mod Decisions
+pub mod Memories
+pub mod Demand3
+pub mod Demand3Calls
+pub mod Exact
+pub mod Witness

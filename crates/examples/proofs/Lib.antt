@@ -1,4 +1,0 @@
-pub mod Causes
-pub mod Refusals
-pub mod PageCase
-pub mod Readings

@@ -1,4 +1,0 @@
-pub mod PageCase
-pub mod Refusals
-pub mod Causes
-pub mod Readings

@@ -1,0 +1,3 @@
+pub mod Contents
+pub mod Promises
+pub mod Settled

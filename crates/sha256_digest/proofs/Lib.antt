@@ -1,0 +1,4 @@
+pub mod Lists
+pub mod Padding
+pub mod Laws
+pub mod Bytes

@@ -20,7 +20,7 @@ use Rattle.layout.specs.Layouts.{layoutOf}
 use Rattle.layout.specs.Calls.{memoryBytes, callCheck}
 use Rattle.layout.specs.Good.{Good}
 use Rattle.steps.specs.declared.Step.{Step}
-use Rattle.effects.specs.Effects.{written}
+use Rattle.monitor.specs.Decisions.{decidedMemory}
 use Rattle.monitor.specs.Runs.{State, begin, before, memoryAfter}
 use Rattle.traces.specs.Traces.{count, steps}
 use Rattle.traces.specs.Traces.{traceCheck, stepCheck}

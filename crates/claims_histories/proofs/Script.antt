@@ -25,7 +25,7 @@ use Rattle.steps.specs.declared.Step.{Step}
 use Rattle.rules.specs.declared.Monitor.{Monitor}
 use Rattle.steps.specs.Steps.{stepOf, flags, encode, Addressed}
 use Rattle.rules.specs.Rules.{cause, start}
-use Rattle.monitor.specs.Decisions.{next}
+use Rattle.monitor.specs.Decisions.{next, decidedMemory}
 use Rattle.steps.proofs.Laws.{flags-most, tells-step, clean-encode}
 use Rattle.effects.specs.Effects.{stored, storing, written}
 use Rattle.monitor.specs.declared.Traced.{Traced}
@@ -159,7 +159,7 @@ module _ (memory layout memory′ : List ℕ) (h : Bytes layout) (a : Attests me
 
   after-first : before ly all (begin memory) 1 ≡ released memory
   unfolding before next
-  after-first = simp (released-first, keeps-memory ly start (at 0) memory released-first refl refl)
+  after-first = simp (keeps-memory ly start (at 0) memory released-first refl refl) (simp released-first)
 
   free-first : Free ly (released memory)
   free-first = record { unheld = refl; outside = zero-outside layout (call .allowed .laid) }

@@ -22,7 +22,7 @@ use Rattle.layout.proofs.Placed.{Placed}
 use Rattle.steps.specs.declared.Step.{Step}
 use Rattle.rules.specs.declared.Monitor.{Monitor}
 use Rattle.rules.specs.Rules.{writable, rule15, cause}
-use Rattle.monitor.specs.Decisions.{next}
+use Rattle.monitor.specs.Decisions.{next, decidedMemory}
 use Rattle.rules.proofs.Laws.{unbroken-passes}
 use Rattle.rules.proofs.None.{visit-lowest}
 use Rattle.effects.specs.Effects.{stored, storing, written}
@@ -56,18 +56,17 @@ module _ (l : Layout) (m : Monitor) (s : Step) (free : m .held ≡ false) where
       → s .dmaactive ≡ false
       → cause l m s ≡ 0
   outside-passes e o r w d =
-      unbroken-passes l m s (simp free) (record {
-        n1 = simp (o, r);
-        n2 = simp (free, eq-eqb (m .lastpc) (l .cr .hi) e, and-false);
-        n3 = simp (free, o, and-false);
-        n4 = simp (free, o, and-false);
-        n5 = simp (o, r, w);
-        n6 = simp (free, o);
-        n7 = simp d;
-        n8 = simp d;
-        n9 = simp (d, free);
-        n10 = simp (o, w, d, and-false);
-      })
+      unbroken-passes l m s (simp free)
+      (simp (o, r),
+      (simp (free, eq-eqb (m .lastpc) (l .cr .hi) e, and-false),
+      (simp (free, o, and-false),
+      (simp (free, o, and-false),
+      (simp (o, r, w),
+      (simp (free, o),
+      (simp d,
+      (simp d,
+      (simp (d, free),
+      (simp (o, w, d, and-false), tt))))))))))
 
 -- ---- a visit
 

@@ -19,8 +19,8 @@ use Rattle.layout.specs.Layouts.{layoutOf}
 use Rattle.layout.specs.Calls.{callCheck}
 use Rattle.steps.specs.declared.Step.{Step}
 use Rattle.rules.specs.declared.Monitor.{Monitor}
-use Rattle.rules.specs.Rules.{rule15, broken, numbered, cause}
-use Rattle.monitor.specs.Decisions.{next}
+use Rattle.rules.specs.Rules.{rule15, broken, numbered, ruleNumbers, cause}
+use Rattle.monitor.specs.Decisions.{next, decidedAnswer}
 use Rattle.rules.proofs.Laws.{held-away, quiet-passes, cause-lowest}
 use Rattle.monitor.specs.declared.Totals.{Totals}
 use Rattle.monitor.specs.declared.Traced.the-variants as traced
@@ -48,16 +48,16 @@ cause-decides l m s =
 decides-cause : (l : Layout) (m : Monitor) (s : Step) (c : ℕ) → Decides l m s c → c ≡ cause l m s
 decides-cause l m s c d =
     let b = broken l m s in
-    let n : ℕ = first 11 (numbered b) in
+    let n : ℕ = first ruleNumbers (numbered b) in
     cases (rule15 m s) (λ e. d .away e ∙ sym (held-away l m s e))
     (λ e.
-    cases (ltb n 11)
+    cases (ltb n ruleNumbers)
     (λ t.
-    let h = ltb-true n 11 t in
-    let f = first-found 11 (numbered b) h in
-    d .lowest e n h f (first-least 11 (numbered b)) ∙ sym (cause-lowest l m s n e h f (first-least 11 (numbered b))))
+    let h = ltb-true n ruleNumbers t in
+    let f = first-found ruleNumbers (numbered b) h in
+    d .lowest e n h f (first-least ruleNumbers (numbered b)) ∙ sym (cause-lowest l m s n e h f (first-least ruleNumbers (numbered b))))
     (λ t.
-    let f = none-found 11 (numbered b) t in
+    let f = none-found ruleNumbers (numbered b) t in
     d .none e f ∙ sym (quiet-passes l m s e f)))
 
 pub decided-once : claim.DecidedOnce
@@ -102,7 +102,7 @@ module _ (memory layout trace room memory′ room′ : List ℕ) (total : Totals
       ap (λ (b : List ℕ). getD b (answerSize * i) 0) left
       ∙ sym (opens (roomAfter l trace memory room) (answerSize * i))
       ∙ ap (λ (b : List ℕ). getD b 0 0) (answer-at l (steps trace) (begin memory) (count trace) i rest h)
-      ∙ answer-cause l (remembers i) (steps trace i) (before l (steps trace) (begin memory) i .memory)
+      ∙ answer-cause l (cause l (remembers i) (steps trace i)) (steps trace i) (before l (steps trace) (begin memory) i .memory)
 
   resets-told : (n : ℕ) → n ≤ count trace → resetting l (steps trace) (begin memory) n ≡ causesIn room′ n
   unfolding causesIn resetting
@@ -134,7 +134,7 @@ step-decision memory layout step m room memory′ room′ m′ p =
     let s : Step = steps step 0 in
     let d = stepped-judged (callCheck memory layout (stepCheck step (length room))) m′ (next l m s) (p .answered) in
     let e : room′ ≡ bytes (decidedAnswer l m s memory) ++ drop answerSize room = p .room-left ∙ simp (d .0) in
-    let c : getD room′ 0 0 ≡ cause l m s = ap (λ (b : List ℕ). getD b 0 0) e ∙ answer-cause l m s memory in (
+    let c : getD room′ 0 0 ≡ cause l m s = ap (λ (b : List ℕ). getD b 0 0) e ∙ answer-cause l (cause l m s) s memory in (
       subst (Decides l m s) (sym c) (cause-decides l m s),
       d .1 ∙ ap (λ (n : ℕ). record { held = not (eqb n 0); lastpc = s .pc }) (sym c),
     )

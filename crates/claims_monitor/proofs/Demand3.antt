@@ -11,7 +11,7 @@ use Rattle.layout.specs.declared.Layout.{Layout}
 use Rattle.steps.specs.declared.Step.{Step}
 use Rattle.rules.specs.declared.Monitor.{Monitor}
 use Rattle.rules.specs.Rules.{cause, start}
-use Rattle.monitor.specs.Decisions.{resets, next}
+use Rattle.monitor.specs.Decisions.{resets, next, decidedAnswer, decidedMemory}
 use Rattle.effects.specs.Effects.{cpuExposed, dmaExposed, exposing, answer, stored, storing, written}
 use Rattle.monitor.specs.Runs.{State, before, said, answers, resetting}
 use Rattle.claims_monitor.specs.Demand3.{Agree, storesScratch, withData, blank, SameSteps, Unseen, Demand3Runs}

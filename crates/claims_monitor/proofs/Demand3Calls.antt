@@ -15,8 +15,8 @@ use Rattle.layout.specs.declared.Layout.{Layout}
 use Rattle.layout.specs.Layouts.{layoutOf}
 use Rattle.layout.specs.Calls.{callCheck}
 use Rattle.steps.specs.Steps.{stepOf, clean}
-use Rattle.effects.specs.Effects.{written}
 use Rattle.traces.specs.Traces.{stepSize, count, stepBytes, steps}
+use Rattle.monitor.specs.Decisions.{decidedMemory}
 use Rattle.monitor.specs.Runs.{begin, before, memoryAfter}
 use Rattle.traces.specs.Traces.{unclean, traceCheck, stepCheck}
 use Rattle.monitor.specs.Settled.{traced-row-settled, stepped-row-settled}

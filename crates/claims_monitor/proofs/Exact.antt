@@ -14,6 +14,7 @@ use Rattle.layout.specs.Regions.{within, outside}
 use Rattle.rules.specs.Rules.{cause, start}
 use Rattle.effects.specs.declared.StepAnswer.{StepAnswer}
 use Rattle.effects.specs.Effects.{exposing, answer}
+use Rattle.monitor.specs.Decisions.{decidedAnswer}
 use Rattle.claims_monitor.specs.Marked.{dmaReads}
 use Rattle.claims_monitor.specs.Demand3.{Demand3Exact}
 
@@ -22,7 +23,7 @@ module _ (l : Layout) (k : ℕ) (kr : outside (l .kr) k ≡ true) (xs : outside 
   unfolding cause first
   look-passes = simp (and-false, not-true (within (l .kr) k) kr, not-true (within (l .xs) k) xs)
 
-  look-shows : (x : List ℕ) → decidedAnswer l start (dmaReads 0 k) x .dmaaddress ≡ getD x k 0
+  look-shows : (x : List ℕ) → decidedAnswer l start (dmaReads 0 k) x .dmabyte ≡ getD x k 0
   unfolding answer exposing
   look-shows x = simp look-passes
 

@@ -23,7 +23,7 @@ use Rattle.steps.specs.declared.Step.{Step}
 use Rattle.rules.specs.declared.Monitor.{Monitor}
 use Rattle.steps.specs.Steps.{bit, stepOf}
 use Rattle.rules.specs.Rules.{writable, cause}
-use Rattle.monitor.specs.Decisions.{resets, next}
+use Rattle.monitor.specs.Decisions.{resets, next, decidedAnswer, decidedMemory}
 use Rattle.rules.proofs.Laws.{held-away, rule-6}
 use Rattle.monitor.proofs.Decisions.{reset-cause, passes-cause, passes-only, inside-unheld}
 use Rattle.monitor.specs.declared.Stepped.{Stepped}
@@ -62,7 +62,7 @@ lands-not-rom l on a h e =
 step-rom : (l : Layout) (m : Monitor) (s : Step) (memory : List ℕ) (a : ℕ) → crOrKr l a ≡ true
     → getD (decidedMemory l m s memory) a 0 ≡ getD memory a 0
 step-rom l m s memory a e =
-    elim (written-byte l m s memory a) [
+    elim (written-byte l (cause l m s) s memory a) [
       | inl stays ↦ stays
       | inr (inl c) ↦ lands-not-rom l (s .cpuwrites) (s .cpuaddress) (c .lands) (rw (c .address) e)
       | inr (inr d) ↦ lands-not-rom l (s .dmaactive && s .dmawrites) (s .dmaaddress) (d .lands) (rw (d .address) e)
@@ -103,7 +103,7 @@ unfolding before
 guarded l t x n a e =
     let m = remembers l t x n in
     let s = t n in
-    elim (written-byte l m s (before l t x n .memory) a) [
+    elim (written-byte l (cause l m s) s (before l t x n .memory) a) [
       | inl stays ↦ inl stays
       | inr (inl c) ↦
           let w = lands-on l (s .cpuwrites) (s .cpuaddress) (c .lands) in
@@ -159,8 +159,8 @@ bits-of false false = (refl, refl)
 record Exposes (l : Layout) (m : Monitor) (s : Step) (memory : List ℕ) : Type 0 where
   cpu-bit : bit 0 (decidedAnswer l m s memory .exposed) ≡ (not (resets l m s) && cpuExposed l s)
   dma-bit : bit 1 (decidedAnswer l m s memory .exposed) ≡ (not (resets l m s) && dmaExposed s)
-  cpu-byte : decidedAnswer l m s memory .cpuaddress ≡ pick (not (resets l m s) && cpuExposed l s) (getD memory (s .cpuaddress) 0) 0
-  dma-byte : decidedAnswer l m s memory .dmaaddress ≡ pick (not (resets l m s) && dmaExposed s) (getD memory (s .dmaaddress) 0) 0
+  cpu-byte : decidedAnswer l m s memory .cpubyte ≡ pick (not (resets l m s) && cpuExposed l s) (getD memory (s .cpuaddress) 0) 0
+  dma-byte : decidedAnswer l m s memory .dmabyte ≡ pick (not (resets l m s) && dmaExposed s) (getD memory (s .dmaaddress) 0) 0
 
 exposes : (l : Layout) (m : Monitor) (s : Step) (memory : List ℕ) → Exposes l m s memory
 unfolding answer exposing

@@ -10,7 +10,7 @@ use borrow.Author.Tests.{eqb-true, eqb-false, ne-eqb}
 use Rattle.notions.specs.First.{first}
 use Rattle.notions.proofs.Tests.{cases, untrue, clash}
 use Rattle.rules.specs.declared.Monitor.{Monitor}
-use Rattle.rules.specs.Rules.{broken, numbered, cause}
+use Rattle.rules.specs.Rules.{broken, numbered, ruleNumbers, cause}
 use Rattle.monitor.specs.Decisions.{next}
 use Rattle.monitor.proofs.Decisions.{breaks-resets, inside-unheld}
 use Rattle.monitor.specs.Runs.{before}
@@ -28,11 +28,11 @@ module _ (r : Run) (n : ℕ) where
   abbrev tried : ℕ → Bool
   tried = numbered (broken (r .layout) m (r .trace n))
 
-  by-rule : (k : ℕ) → k < 11 → tried k ≡ true → reset r n
+  by-rule : (k : ℕ) → k < ruleNumbers → tried k ≡ true → reset r n
   by-rule = breaks-resets (r .layout) m (r .trace n)
 
   -- with PC in CR it is enough to look at a monitor that is not held
-  by-rule-inside : (k : ℕ) → k < 11 → zeroOutside r 0 → (PC ∈ CR) r n → (m .held ≡ false → tried k ≡ true) → reset r n
+  by-rule-inside : (k : ℕ) → k < ruleNumbers → zeroOutside r 0 → (PC ∈ CR) r n → (m .held ≡ false → tried k ≡ true) → reset r n
   by-rule-inside k h z i f =
       cases (resetsAt (r .layout) (r .trace) (r .from) n) (λ e. e)
       (λ e. by-rule k h (f (inside-unheld (r .layout) m (r .trace n) z i e)))

@@ -11,7 +11,7 @@ use Rattle.layout.specs.declared.Layout.{Layout}
 use Rattle.layout.specs.Layouts.{layoutOf}
 use Rattle.steps.specs.declared.Step.{Step}
 use Rattle.rules.specs.declared.Monitor.{Monitor}
-use Rattle.rules.specs.Rules.{rule15, broken, numbered, start}
+use Rattle.rules.specs.Rules.{rule15, broken, numbered, ruleNumbers, start}
 use Rattle.monitor.specs.Decisions.{next}
 use Rattle.monitor.specs.declared.Stepped.the-variants as stepped
 use Rattle.monitor.specs.declared.Traced.the-variants as traced
@@ -29,10 +29,10 @@ pub record Decides (l : Layout) (m : Monitor) (s : Step) (c : ℕ) : Type 0 wher
   -- held and PC not 0: 15 always
   pub away : rule15 m s ≡ true → c ≡ 15
   -- else the lowest number of a rule that is tried and applies
-  pub lowest : rule15 m s ≡ false → (k : ℕ) → k < 11 → numbered (broken l m s) k ≡ true
+  pub lowest : rule15 m s ≡ false → (k : ℕ) → k < ruleNumbers → numbered (broken l m s) k ≡ true
       → ((j : ℕ) → j < k → numbered (broken l m s) j ≡ false) → c ≡ k
   -- 0 if there is none
-  pub none : rule15 m s ≡ false → ((k : ℕ) → k < 11 → numbered (broken l m s) k ≡ false) → c ≡ 0
+  pub none : rule15 m s ≡ false → ((k : ℕ) → k < ruleNumbers → numbered (broken l m s) k ≡ false) → c ≡ 0
 
 -- this settles the cause
 abbrev pub DecidedOnce : Type 0

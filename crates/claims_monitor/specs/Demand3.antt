@@ -13,6 +13,7 @@ use Rattle.layout.specs.Layouts.{layoutOf}
 use Rattle.steps.specs.declared.Step.{Step}
 use Rattle.rules.specs.declared.Monitor.{Monitor}
 use Rattle.rules.specs.Rules.{codeWritesIn, start}
+use Rattle.monitor.specs.Decisions.{decidedAnswer}
 use Rattle.monitor.specs.declared.Stepped.{Stepped}
 use Rattle.monitor.specs.declared.Traced.{Traced}
 use Rattle.effects.specs.Effects.{answer}

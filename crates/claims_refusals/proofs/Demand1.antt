@@ -205,8 +205,8 @@ abbrev readValues : List ℕ → ℕ → List ℕ
 readValues b p = pick (leb (count b) p) [] (stepValues (steps b p))
 
 read-picked : (m e u : Bool) (p : ℕ) (s : Step)
-    → readRow (pick m (reads.refusedAt traceSize 0)
-    (pick e read.End (pick u (reads.refusedAt stepNotZero p) (read.Step s))))
+    → readRow (pick m (reads.refusedRead traceSize 0)
+    (pick e read.End (pick u (reads.refusedRead stepNotZero p) (read.Step s))))
     ≡ told (pick m (refusedAt traceSize 0) (pick (not e && u) (refusedAt stepNotZero p) call.Done))
     (pick e [] (stepValues s))
 read-picked true e u p s = refl

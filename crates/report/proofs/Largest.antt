@@ -10,17 +10,16 @@ use lib.ListN.{length, take, drop, length-append, length-take, length-drop}
 use lib.Seq.{take-all, take-at}
 use borrow.Author.Tests.{ltb-true, ltb-false}
 use Rattle.notions.specs.Choice.{pick}
-use Rattle.notions.specs.First.{first}
 use Rattle.refusal.specs.declared.Refusal.{Refusal}
 use Rattle.refusal.specs.declared.Answer.{Answer}
 use Rattle.refusal.specs.declared.Answer.the-variants.{Done, Refused}
 use Rattle.notions.proofs.Tests.{cases}
-use Rattle.notions.proofs.First.{first-most}
 use Rattle.layout.specs.declared.Layout.{Layout}
 use Rattle.steps.specs.declared.Step.{Step}
 use Rattle.rules.specs.declared.Monitor.{Monitor}
-use Rattle.rules.specs.Rules.{rule15, broken, numbered, cause}
-use Rattle.monitor.specs.Decisions.{resets}
+use Rattle.rules.specs.Rules.{cause}
+use Rattle.rules.proofs.Laws.{cause-most}
+use Rattle.monitor.specs.Decisions.{resets, decidedAnswer}
 use Rattle.effects.specs.declared.StepAnswer.{StepAnswer}
 use Rattle.monitor.specs.declared.Totals.{Totals}
 use Rattle.effects.specs.Effects.{exposing, answer}
@@ -45,15 +44,6 @@ length-line : (k : ℕ) (a : StepAnswer)
     → length (line k a) ≡ places k + places (a .cause) + length (cpuShown a) + length (dmaShown a) + 4
 unfolding line
 length-line k a = simp (length-append, length-decimal) (omega arith)
-
-cause-most : (l : Layout) (m : Monitor) (s : Step) → cause l m s ≤ 15
-unfolding cause
-cause-most l m s =
-    let k = first 11 (numbered (broken l m s)) in
-    cases (rule15 m s) (λ e. simp e (omega arith))
-    (λ e.
-    cases (ltb k 11) (λ g. simp (e, g) (omega (arith, first-most 11 (numbered (broken l m s)))))
-    (λ g. simp (e, g) (omega arith)))
 
 -- a step that resets has a cause of two digits at most and shows no byte; one that passes has cause 0 and shows two at
 -- most

@@ -11,8 +11,7 @@ ghost use mathlib.Core.List.{[], _∷_};
 ghost use Prim.Native.Nat.{_+_, _*_, _≤_, _<_};
 ghost use lib.ListN.{length};
 ghost use Rattle.io.specs.Digits.{digits};
-ghost use Rattle.monitor.specs.Runs as R;
-ghost use Rattle.traces.specs.Traces.{mostSteps};
+ghost use Rattle.traces.specs.Traces.{answerSize, mostSteps};
 ghost use Rattle.report.specs.Text as T;
 ghost use Rattle.report.specs.Inner as W;
 ghost use Rattle.report.specs.Promises as P;
@@ -92,7 +91,7 @@ fn put_line(out: &mut [u8], at: usize, k: usize, a: StepAnswer) -> usize
 }
 
 fn answer_at(room: &[u8], k: usize) -> StepAnswer
-    requires { ⌜ R.answerSize * k + R.answerSize ≤ length (now room) ⌝ }
+    requires { ⌜ answerSize * k + answerSize ≤ length (now room) ⌝ }
     ensures { λ r. ⌜ r ≡ W.answerAt (now (room .entry)) k ⌝ }
 {
     let at = traces::ANSWER * k;
@@ -106,7 +105,7 @@ fn answer_at(room: &[u8], k: usize) -> StepAnswer
 
 // The lines of the first n steps.
 fn put_lines(out: &mut [u8], from: usize, room: &[u8], n: usize) -> usize
-    requires { ⌜ (from ≤ W.mostField) × (n ≤ mostSteps) × (R.answerSize * n ≤ length (now room)) ⌝ }
+    requires { ⌜ (from ≤ W.mostField) × (n ≤ mostSteps) × (answerSize * n ≤ length (now room)) ⌝ }
     ensures { λ r. ⌜ W.Wrote (now (out .entry)) (now (out .exit)) from (T.lines (W.answerAt (now (room .entry))) n) r
         × (r ≤ from + W.mostLine * n) ⌝ }
 {

@@ -10,11 +10,11 @@ use reader::Read;
 use refusal::Answer;
 use refusal::Refusal;
 use rules::Monitor;
-use steps::Step;
 use sha256::Bytes32;
 use sha256::Sha;
 use sha256::Taken;
 use station::Verdict;
+use steps::Step;
 ghost use Prim.Native.Nat.{_≤_};
 ghost use lib.ListN.{length};
 
@@ -144,7 +144,7 @@ fn read(r: Read) {
 
 // Memory or room, as they stand after the call.
 fn left(name: &[u8], bytes: &[u8]) {
-    let d = sha256::digest_of(bytes);
+    let d = sha256_digest::digest_of(bytes);
     given(name, &d);
 }
 

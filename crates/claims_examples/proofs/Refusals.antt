@@ -9,7 +9,7 @@ use Rattle.refusal.specs.declared.Answer.the-variants as call
 use Rattle.sha256_block.specs.Words.{add, word, words, bytes}
 use Rattle.sha256_block.specs.Constants.{K, H}
 use Rattle.sha256_block.specs.Block.{next, schedule, round, rounds, addTo, compress, blocks}
-use Rattle.sha256.specs.Hash.{padding, out, sha256}
+use Rattle.sha256_digest.specs.Hash.{padding, out, sha256}
 use Rattle.hmac.specs.Hmac.{k0, xored, hmac}
 use Rattle.octets.specs.Numbers.{number}
 use Rattle.layout.specs.Layouts.{layoutOf, layoutCheck}

@@ -56,17 +56,34 @@ module _ (l : Layout) (m : Monitor) (s : Step) (free : m .held ≡ false) where
       → s .dmaactive ≡ false
       → cause l m s ≡ 0
   outside-passes e o r w d =
-      unbroken-passes l m s (simp free)
-      (simp (o, r),
-      (simp (free, eq-eqb (m .lastpc) (l .cr .hi) e, and-false),
-      (simp (free, o, and-false),
-      (simp (free, o, and-false),
-      (simp (o, r, w),
-      (simp (free, o),
-      (simp d,
-      (simp d,
-      (simp (d, free),
-      (simp (o, w, d, and-false), tt))))))))))
+      unbroken-passes l m s (simp free) (
+        simp (o, r),
+        (
+          simp (free, eq-eqb (m .lastpc) (l .cr .hi) e, and-false),
+          (
+            simp (free, o, and-false),
+            (
+              simp (free, o, and-false),
+              (
+                simp (o, r, w),
+                (
+                  simp (free, o),
+                  (
+                    simp d,
+                    (
+                      simp d,
+                      (
+                        simp (d, free),
+                        (simp (o, w, d, and-false), tt),
+                      ),
+                    ),
+                  ),
+                ),
+              ),
+            ),
+          ),
+        ),
+      )
 
 -- ---- a visit
 

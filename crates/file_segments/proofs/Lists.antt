@@ -1,22 +1,20 @@
 -- A part of one list laid into another, and the bytes that then stand there. Assumes nothing.
 use mathlib.Core.Path.{_≡_, refl, ap, sym, _∙_}
 use mathlib.Core.List.{List, [], _∷_, _++_, append-nil}
-use Prim.Native.Nat.{ℕ, zero, suc, _+_, _-_, _≤_, _<_, min}
+use Prim.Native.Nat.{ℕ, zero, suc, _+_, _-_, _≤_, _<_}
 use native.Mathlib.Omega.{arith}
-use lib.ListN.{length, getD, take, drop, replicate, length-take, length-drop, drop-of-length-le, List·getD-append}
-use lib.Seq.{paste, sets, length-paste-head, getD-append-add, getD-take, getD-drop, length-take-le, drop-length}
+use lib.ListN.{length, getD, take, drop, replicate, length-drop, drop-of-length-le, List·getD-append}
+use lib.Seq.{paste, sets, take-all, length-paste-head, getD-append-add, getD-take, getD-drop, length-take-le, drop-length}
 
-take-length-take : (n : ℕ) (x : List ℕ) → take (length (take n x)) x ≡ take n x
-take-length-take zero x = refl
-take-length-take (suc n) [] = refl
-take-length-take (suc n) (a ∷ x) = ap (λ (r : List ℕ). a ∷ r) (take-length-take n x)
+-- n elements from p on, and all from p on, which are fewer
+pub some-part : (s : List ℕ) (p n : ℕ) → take (p + n - p) (drop p s) ≡ take n (drop p s)
+some-part s p n = let z : p + n - p ≡ n = omega arith in ap (λ (k : ℕ). take k (drop p s)) z
 
--- of the n elements from p on there are k
-pub those-there : (s : List ℕ) (p n k : ℕ) → k ≡ min n (length s - p) → take (p + k - p) (drop p s) ≡ take n (drop p s)
-those-there s p n k e =
-    let z : p + k - p ≡ k = omega arith in
-    let m : k ≡ length (take n (drop p s)) = simp (length-take, length-drop) e in
-    ap (λ (j : ℕ). take j (drop p s)) (z ∙ m) ∙ take-length-take n (drop p s)
+pub last-part : (s : List ℕ) (p n : ℕ) → length s ≤ p + n → take (length s - p) (drop p s) ≡ take n (drop p s)
+last-part s p n h =
+    let all : (k : ℕ) → length s ≤ p + k → take k (drop p s) ≡ drop p s =
+    λ k g. take-all k (drop p s) (simp length-drop (omega arith)) in
+    all (length s - p) (omega arith) ∙ sym (all n h)
 
 -- nothing is laid where there is nothing
 take-nil : (n : ℕ) → take {A = ℕ} n [] ≡ []

@@ -4,7 +4,7 @@ use mathlib.Core.Path.{_≡_, refl, ap, sym, subst, _∙_}
 use mathlib.Core.Bool.{Bool, true, false}
 use mathlib.Core.List.{List}
 use mathlib.Core.Logic.{⊎-elim}
-use Prim.Native.Nat.{ℕ, _+_, _≤_, _<_}
+use Prim.Native.Nat.{ℕ, _+_, _-_, _≤_, _<_}
 use native.Mathlib.Nat.{eq-or-lt-of-le}
 use native.Mathlib.Omega.{arith}
 use native.Mathlib.Numerals.{add-one}
@@ -22,7 +22,7 @@ use Rattle.notions.proofs.First.{first-is, first-none, first-found, Passed, pas
 use Rattle.notions.proofs.First.{passed-all}
 use Rattle.file_segments.specs.Segments.{headSize, startAt, sizeAt, place, reached, segments, failsAt}
 use Rattle.file_segments.specs.Segments.{segmentFails, firstWrong, segmentCheck, image}
-use Rattle.file_segments.proofs.Lists.{laid-nothing}
+use Rattle.file_segments.proofs.Lists.{some-part, last-part, laid-nothing}
 
 -- p is the place of segment number k, and those before it begin in the body
 pub record Walked (b : List ℕ) (k p : ℕ) : Type 0 where
@@ -137,6 +137,20 @@ module _ {n : ℕ} {b : List ℕ} {p : ℕ} {memory : List ℕ} (d : Laid n b p 
 
   pub laid-through : length b ≤ p → memory ≡ image n b (segments b)
   laid-through h = d .stands ∙ ap (image n b) (sym (counted b (d .number) p (d .walked) h))
+
+-- the segment at p, as the code takes its contents: where all are there, and where they run past the body
+module _ {n : ℕ} {b : List ℕ} {p : ℕ} {memory : List ℕ} (d : Laid n b p memory)
+    (memory′ : List ℕ) (size start : ℕ) (h : p < length b) (ez : size ≡ sizeAt b p) (es : start ≡ startAt b p) where
+  pub laid-next : memory′ ≡ sets memory start (take (p + headSize + size - (p + headSize)) (drop (p + headSize) b))
+      → Laid n b (p + headSize + size) memory′
+  laid-next em = laid-more d memory′ size start h ez es (em ∙ ap (sets memory start) (some-part b (p + headSize) size))
+
+  pub laid-last : length b ≤ p + headSize + size
+      → memory′ ≡ sets memory start (take (length b - (p + headSize)) (drop (p + headSize) b))
+      → memory′ ≡ image n b (segments b)
+  laid-last g em =
+      let e = em ∙ ap (sets memory start) (last-part b (p + headSize) size g) in
+      laid-through (laid-more d memory′ size start h ez es e) g
 
 -- a last segment whose four bytes run past the body lays nothing
 pub laid-all : {n : ℕ} {b : List ℕ} {p : ℕ} {memory : List ℕ} → Laid n b p memory → length b < p + headSize

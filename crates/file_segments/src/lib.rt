@@ -3,8 +3,7 @@ use refusal::Answer;
 use refusal::Refusal;
 ghost use mathlib.Core.Path.{_≡_};
 ghost use Prim.Native.Nat.{_+_, _≤_, _<_};
-ghost use lib.ListN.{length, take, drop, replicate};
-ghost use lib.Seq.{sets};
+ghost use lib.ListN.{length, replicate};
 ghost use Rattle.file_segments.specs.Segments as S;
 ghost use Rattle.file_segments.specs.Promises as P;
 
@@ -67,26 +66,24 @@ fn clear(memory: &mut [u8])
     }
 }
 
-// n bytes of a body, from p on, into the memory from an address on: those that there are, as far as they fit.
-fn lay(body: &[u8], p: usize, n: usize, memory: &mut [u8], to: usize)
-    requires { ⌜ p ≤ length (now body) ⌝ }
-    ensures { λ r. ⌜ now (memory .exit) ≡ sets (now (memory .entry)) to (take n (drop p (now (body .entry)))) ⌝ }
-{
-    let k = octets::least(n, body.len() - p);
-    octets::store(memory, to, &body[p..p + k]);
-}
-
 // The memory becomes what the segments describe, as far as it reaches, whatever stood there. A segment whose four bytes
-// run past the body has no contents: nothing is laid for it.
+// run past the body has no contents, one whose contents do has those that there are.
 pub fn fill(body: &[u8], memory: &mut [u8])
     ensures { λ r. ⌜ P.Fills (now (body .entry)) (now (memory .entry)) (now (memory .exit)) ⌝ }
 {
     clear(memory);
+    let n = body.len();
     let mut p: usize = 0;
-    while p + HEAD_SIZE <= body.len() {
+    while p + HEAD_SIZE <= n {
         let start = two_bytes_at(body, p);
         let size = two_bytes_at(body, p + LENGTH_AT);
-        lay(body, p + HEAD_SIZE, size, memory, start);
-        p = p + HEAD_SIZE + size;
+        let from = p + HEAD_SIZE;
+        let end = from + size;
+        if n < end {
+            octets::store(memory, start, &body[from..]);
+            return;
+        }
+        octets::store(memory, start, &body[from..end]);
+        p = end;
     }
 }

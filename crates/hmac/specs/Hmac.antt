@@ -1,5 +1,5 @@
--- FIPS 198-1, table 1: HMAC with SHA-256, whose blocks are 64 bytes, of a key and a text as lists of bytes. Assumes
--- nothing.
+-- FIPS 198-1, table 1: HMAC with SHA-256, whose blocks are 64 bytes, of a key and a text as lists of bytes.
+-- Assumes nothing.
 use mathlib.Core.List.{List, [], _∷_, _++_}
 use Prim.Native.Nat.{ℕ, _-_}
 use lib.Bits.{bitXor}
@@ -12,8 +12,8 @@ use Rattle.sha256_digest.specs.Hash.{sha256}
 abbrev pub extended : List ℕ → List ℕ
 extended k = k ++ replicate (64 - length k) 0
 
--- steps 1 to 3: a key of one block is taken as it is; a longer one is hashed and then extended; a shorter one is
--- extended
+-- steps 1 to 3: a key of one block is taken as it is; a longer one is hashed and then extended;
+-- a shorter one is extended
 unfoldable pub k0 : List ℕ → List ℕ
 k0 k = pick (eqb (length k) 64) k (pick (ltb 64 (length k)) (extended (sha256 k)) (extended k))
 

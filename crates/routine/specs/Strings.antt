@@ -13,8 +13,8 @@ same [] (y ∷ b) = false
 same (x ∷ a) [] = false
 same (x ∷ a) (y ∷ b) = eqb x y && same a b
 
--- a is greater than b, the first byte heaviest; of two strings one of which begins with the other, the longer is
--- greater
+-- a is greater than b, the first byte heaviest;
+-- of two strings one of which begins with the other, the longer is greater
 unfoldable pub greater : List ℕ → List ℕ → Bool
 greater [] b = false
 greater (x ∷ a) [] = true

@@ -1,6 +1,5 @@
--- What the public functions promise, for all inputs. `Starts`, `TakesIn`, `Finishes`, `IsBlock` and `Hashes`
--- are the contracts of the functions so named; `Gives` is the shape of every answer of 32 bytes, here and in the crates
--- above.
+-- What the public functions promise, for all inputs. `Starts`, `TakesIn`, `Finishes`, `IsBlock` and `Hashes` are the
+-- contracts of the functions so named; `Gives` is the shape of every answer of 32 bytes, here and in the crates above.
 -- Assumes nothing.
 use mathlib.Core.Path.{_≡_}
 use mathlib.Core.Bool.{Bool}

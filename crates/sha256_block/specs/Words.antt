@@ -1,5 +1,5 @@
--- FIPS 180-4, 2.2.2, 3.1 and 3.2: words, and the operations on them. A word is a number below 2 ^ 32, a byte one below
--- 2 ^ 8.
+-- FIPS 180-4, 2.2.2, 3.1 and 3.2: words, and the operations on them.
+-- A word is a number below 2 ^ 32, a byte one below 2 ^ 8.
 -- Assumes nothing.
 use mathlib.Core.List.{List, [], _∷_, _++_}
 use Prim.Native.Nat.{ℕ, zero, suc, _+_, _-_, _*_, _/_, _%_, _^_}

@@ -73,7 +73,7 @@ pub fn digest_from(words: [u32; 8], block: [u8; BLOCK], total: u64) -> [u8; DIGE
     last_digest(words, &block[..total as usize % BLOCK], total)
 }
 
-// The standard's digest of a message, whatever the limit of `hash`; zeros where the standard has none.
+// The digest of a message; zeros where the standard has none.
 pub fn digest_of(message: &[u8]) -> [u8; DIGEST]
     ensures { λ r. ⌜ P.Digests (now (message .entry)) r ⌝ }
 {

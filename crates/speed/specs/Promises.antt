@@ -10,7 +10,7 @@ use Rattle.refusal.specs.Answers.{row, afterCall}
 use Rattle.refusal.specs.declared.Answer.{Answer}
 use Rattle.layout.specs.Layouts.{layoutOf}
 use Rattle.layout.specs.Calls.{callCheck}
-use Rattle.sha256.specs.Hash.{sha256}
+use Rattle.sha256_digest.specs.Hash.{sha256}
 use Rattle.sha256.specs.Promises.{over}
 use Rattle.hmac.specs.Hmac.{hmac}
 use Rattle.hmac.specs.Promises.{long}

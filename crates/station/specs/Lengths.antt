@@ -1,5 +1,5 @@
--- The lengths that `check` takes, in the rules page's words: exactly these pass, as proofs/Laws.antt shows. Assumes
--- nothing.
+-- The lengths that `check` takes, in the rules page's words: exactly these pass, as proofs/Laws.antt shows.
+-- Assumes nothing.
 use mathlib.Core.Path.{_≡_}
 use mathlib.Core.List.{List}
 use Prim.Native.Nat.{ℕ, _≤_}

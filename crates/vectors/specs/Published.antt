@@ -6,7 +6,7 @@ use Prim.Native.Nat.{ℕ}
 use Rattle.sha256_block.specs.Words.{add, word, words, bytes}
 use Rattle.sha256_block.specs.Constants.{K, H}
 use Rattle.sha256_block.specs.Block.{next, schedule, round, rounds, addTo, compress, blocks}
-use Rattle.sha256.specs.Hash.{padding, out, sha256}
+use Rattle.sha256_digest.specs.Hash.{padding, out, sha256}
 use Rattle.hmac.specs.Hmac.{k0, xored, hmac}
 
 -- "abc"

@@ -27,7 +27,7 @@ fn hash_of(pattern: &[u8], n: usize)
     line::hash(b"pattern", &pattern[0..n]);
 }
 
-fn around_one_block(pattern: &Pattern) {
+pub fn hashes(pattern: &Pattern) {
     hash_of(pattern, 0);
     hash_of(pattern, 1);
     hash_of(pattern, 55);
@@ -35,27 +35,15 @@ fn around_one_block(pattern: &Pattern) {
     hash_of(pattern, 63);
     hash_of(pattern, 64);
     hash_of(pattern, 65);
-}
-
-fn around_two_blocks(pattern: &Pattern) {
     hash_of(pattern, 119);
     hash_of(pattern, 120);
     hash_of(pattern, 127);
     hash_of(pattern, 128);
-}
-
-fn around_the_limits(pattern: &Pattern) {
     hash_of(pattern, 65535);
     hash_of(pattern, 65536);
     hash_of(pattern, 131071);
     hash_of(pattern, 131072);
     hash_of(pattern, 131073);
-}
-
-pub fn hashes(pattern: &Pattern) {
-    around_one_block(pattern);
-    around_two_blocks(pattern);
-    around_the_limits(pattern);
 }
 
 fn mac_of(pattern: &[u8], key: usize, message: usize)
@@ -75,24 +63,16 @@ pub fn keys(pattern: &Pattern) {
     mac_of(pattern, 65537, 28);
 }
 
-fn short_messages(pattern: &Pattern) {
+pub fn messages(pattern: &Pattern) {
     mac_of(pattern, 20, 0);
     mac_of(pattern, 20, 1);
     mac_of(pattern, 20, 63);
     mac_of(pattern, 20, 64);
     mac_of(pattern, 20, 65);
-}
-
-fn long_messages(pattern: &Pattern) {
     mac_of(pattern, 20, 65535);
     mac_of(pattern, 20, 65536);
     mac_of(pattern, 20, 65537);
     mac_of(pattern, 0, 0);
     mac_of(pattern, 65536, 65536);
     mac_of(pattern, 65537, 65537);
-}
-
-pub fn messages(pattern: &Pattern) {
-    short_messages(pattern);
-    long_messages(pattern);
 }

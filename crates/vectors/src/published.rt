@@ -13,23 +13,17 @@ fn hashes() {
         b"896-bits",
         b"abcdefghbcdefghicdefghijdefghijkefghijklfghijklmghijklmnhijklmnoijklmnopjklmnopqklmnopqrlmnopqrsmnopqrstnopqrstu",
     );
-}
-
-fn hashes_of_few_bytes() {
     line::hash(b"bd", b"\xbd");
     line::hash(b"c98c8e55", b"\xc9\x8c\x8e\x55");
 }
 
-fn zeros() {
+fn repeated() {
     let zeros = [0u8; 1000];
     line::hash(b"all-00", &zeros[..55]);
     line::hash(b"all-00", &zeros[..56]);
     line::hash(b"all-00", &zeros[..57]);
     line::hash(b"all-00", &zeros[..64]);
     line::hash(b"all-00", &zeros);
-}
-
-fn letters() {
     let letters = [0x41u8; 1000];
     line::hash(b"all-41", &letters);
     let others = [0x55u8; 1005];
@@ -40,9 +34,6 @@ fn macs() {
     let key1 = [0x0bu8; 20];
     line::mac(b"rfc4231-1", &key1, b"Hi There");
     line::mac(b"rfc4231-2", b"Jefe", b"what do ya want for nothing?");
-}
-
-fn macs_of_repeated_bytes() {
     let key3 = [0xaau8; 20];
     let message3 = [0xddu8; 50];
     line::mac(b"rfc4231-3", &key3, &message3);
@@ -52,9 +43,6 @@ fn macs_of_repeated_bytes() {
         b"\x01\x02\x03\x04\x05\x06\x07\x08\x09\x0a\x0b\x0c\x0d\x0e\x0f\x10\x11\x12\x13\x14\x15\x16\x17\x18\x19",
         &message4,
     );
-}
-
-fn mac_to_be_cut() {
     let key5 = [0x0cu8; 20];
     line::mac(b"rfc4231-5", &key5, b"Test With Truncation");
 }
@@ -75,11 +63,7 @@ fn macs_of_long_keys() {
 
 pub fn examples() {
     hashes();
-    hashes_of_few_bytes();
-    zeros();
-    letters();
+    repeated();
     macs();
-    macs_of_repeated_bytes();
-    mac_to_be_cut();
     macs_of_long_keys();
 }

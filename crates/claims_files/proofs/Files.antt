@@ -54,7 +54,7 @@ beside b k a f =
 
 pub described-so : claim.DescribedSo
 described-so b e = record {
-  long = D.length-described b e;
+  long = D.length-described b;
   once = λ j k a h l n m. omega (arith, D.ordered b e j k h l, n .1, m .0);
   named = D.named b e;
   unnamed = λ a h f. D.unnamed b e a h (λ k l. beside b k a (f k l));
@@ -68,7 +68,7 @@ file-is-trace file memory room memory′ room′ t j =
     let p = admitted file memory room (d .0) in
     let e : callCheck (fileMemory file) (body file layoutEntry) (traceCheck (fileTrace file) (length room)) ≡ call.Done =
     call-rest (fileMemory file) (body file layoutEntry) (traceCheck (fileTrace file) (length room))
-    (D.length-described (body file memoryEntry) (p .segments)) (p .layout) ∙ p .trace in
+    (D.length-described (body file memoryEntry)) (p .layout) ∙ p .trace in
     record {
       answered = simp (e, d .1);
       memory-left = simp e (simp (d .0) at (j .memory-left));

@@ -27,6 +27,13 @@ use Rattle.monitor.specs.Runs.{memoryAfter, roomAfter, totals}
 
 -- ---- refusals
 
+-- what the call for a trace refuses, and what the one for a step: 1, the layout's 2 to 6, and then 7 to 9
+abbrev pub traceCallCheck : List ℕ → List ℕ → List ℕ → List ℕ → Answer
+traceCallCheck memory layout trace room = callCheck memory layout (traceCheck trace (length room))
+
+abbrev pub stepCallCheck : List ℕ → List ℕ → List ℕ → List ℕ → Answer
+stepCallCheck memory layout step room = callCheck memory layout (stepCheck step (length room))
+
 -- refusals 1 and 8 of a run with a layout that has been read
 unfoldable pub runCheck : List ℕ → List ℕ → ℕ → Answer
 runCheck memory trace room =
@@ -58,31 +65,22 @@ steppedRow (stepped.Refused r) = A.row (call.Refused r)
 -- `trace`
 pub record Traces (memory layout trace room memory′ room′ : List ℕ) (r : Traced) : Type 0 where
   pub answered :
-      tracedRow r
-      ≡ told (callCheck memory layout (traceCheck trace (length room)))
-      (totalsValues (totals (layoutOf layout) trace memory))
+      tracedRow r ≡ told (traceCallCheck memory layout trace room) (totalsValues (totals (layoutOf layout) trace memory))
   pub memory-left :
-      memory′
-      ≡ afterCall (callCheck memory layout (traceCheck trace (length room))) (memoryAfter (layoutOf layout) trace memory)
-      memory
+      memory′ ≡ afterCall (traceCallCheck memory layout trace room) (memoryAfter (layoutOf layout) trace memory) memory
   pub room-left :
-      room′
-      ≡ afterCall (callCheck memory layout (traceCheck trace (length room))) (roomAfter (layoutOf layout) trace memory room)
-      room
+      room′ ≡ afterCall (traceCallCheck memory layout trace room) (roomAfter (layoutOf layout) trace memory room) room
 
 -- `step`, from whatever the monitor m remembers
 pub record Steps (memory layout step : List ℕ) (m : Monitor) (room memory′ room′ : List ℕ) (r : Stepped) : Type 0 where
   pub answered :
-      steppedRow r
-      ≡ told (callCheck memory layout (stepCheck step (length room)))
-      (remembered (next (layoutOf layout) m (steps step 0)))
+      steppedRow r ≡ told (stepCallCheck memory layout step room) (remembered (next (layoutOf layout) m (steps step 0)))
   pub memory-left :
       memory′
-      ≡ afterCall (callCheck memory layout (stepCheck step (length room)))
-      (decidedMemory (layoutOf layout) m (steps step 0) memory) memory
+      ≡ afterCall (stepCallCheck memory layout step room) (decidedMemory (layoutOf layout) m (steps step 0) memory) memory
   pub room-left :
       room′
-      ≡ afterCall (callCheck memory layout (stepCheck step (length room)))
+      ≡ afterCall (stepCallCheck memory layout step room)
       (bytes (decidedAnswer (layoutOf layout) m (steps step 0) memory) ++ drop answerSize room)
       room
 

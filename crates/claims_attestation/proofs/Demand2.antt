@@ -24,7 +24,7 @@ use Rattle.sha256.proofs.Laws.{gives-bytes}
 use Rattle.routine.specs.Routine.{reply, requestCheck}
 use Rattle.routine.proofs.Laws.{token-is, reply-is, length-reply, request-old, request-forged}
 use Rattle.board.specs.Memory.{bytesAt, key, counter, attested, challenge, received, replyAt, replied}
-use Rattle.board.specs.Attestation.{attestCheck, accepted, storesTo}
+use Rattle.board.specs.Attestation.{requestCheckIn, attestCheck, accepted, storesTo}
 use Rattle.board.specs.Promises.{Attests}
 use Rattle.board.proofs.Stores.{read-same, read-inside}
 use Rattle.board.proofs.Laws as board
@@ -65,8 +65,7 @@ refuses-so = attested-refused
 -- by steps 1 and 2
 request-refused : (memory layout memory′ : List ℕ) (r q : Answer) → Attests memory layout memory′ r
     → length memory ≡ memoryBytes → Good layout
-    → (let l = layoutOf layout in requestCheck (key l memory) (challenge l memory) (received l memory)
-    (counter l memory)) ≡ q → r ≡ q
+    → requestCheckIn (layoutOf layout) memory ≡ q → r ≡ q
 unfolding attestCheck
 request-refused memory layout memory′ r q p long good e =
     row-settled r (attestCheck memory layout) (p .answered) ∙ call-rest memory layout _ long (good-done layout good) ∙ e

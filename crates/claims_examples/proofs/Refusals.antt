@@ -18,8 +18,7 @@ use Rattle.traces.specs.Traces.{traceCheck}
 use Rattle.monitor.specs.Promises.{Traces}
 use Rattle.routine.specs.Strings.{greater, same}
 use Rattle.routine.specs.Routine.{token, requestCheck}
-use Rattle.board.specs.Memory.{key, counter, challenge, received}
-use Rattle.board.specs.Attestation.{attestCheck}
+use Rattle.board.specs.Attestation.{requestCheckIn, attestCheck}
 use Rattle.board.specs.Promises.{Attests}
 use Rattle.file_contents.specs.Contents.{begins, entryFails, firstFailing, fileCheck, body}
 use Rattle.file_segments.specs.Segments.{place, reached, segments, segmentFails, firstWrong, segmentCheck}
@@ -60,10 +59,7 @@ unclean-trace = refl
 -- a request on a small board
 module _ (mailbox n : ℕ) where
   request : Type 0
-  request =
-      let l = layoutOf small.layout in
-      let memory = small.board 0 0 0 mailbox in
-      requestCheck (key l memory) (challenge l memory) (received l memory) (counter l memory) ≡ refusedAt n 0
+  request = requestCheckIn (layoutOf small.layout) (small.board 0 0 0 mailbox) ≡ refusedAt n 0
 
   attested-so : request
       → Attests (small.board 0 0 0 mailbox) small.layout (small.board 0 0 0 mailbox)

@@ -50,7 +50,7 @@ use Rattle.routine.specs.Strings.{same, greater}
 use Rattle.routine.specs.Routine.{token, reply, requestCheck}
 use Rattle.routine.proofs.Order.{same-equal, equal-same}
 use Rattle.board.specs.Memory.{key, counter, challenge, received}
-use Rattle.board.specs.Attestation.{attestCheck}
+use Rattle.board.specs.Attestation.{requestCheckIn, attestCheck}
 use Rattle.station.specs.declared.Verdict.{Verdict}
 use Rattle.station.specs.declared.Verdict.the-variants as verdict
 use Rattle.station.specs.Promises as station
@@ -247,9 +247,7 @@ tells-differ a b =
     tells-not (record { yes = λ e. sym (same-equal a b e); no = λ e f. clash (same a b) (equal-same a b (sym f)) e })
 
 follows-request : (memory layout : List ℕ)
-    → (let l = layoutOf layout in
-    Follows (requestConditions memory layout)
-    (requestCheck (key l memory) (challenge l memory) (received l memory) (counter l memory)))
+    → Follows (requestConditions memory layout) (requestCheckIn (layoutOf layout) memory)
 unfolding requestCheck token
 follows-request memory layout =
     let l = layoutOf layout in

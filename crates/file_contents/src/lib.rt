@@ -1,6 +1,5 @@
 // The contents of a run file: which entry fails, and where the bodies stand.
 use refusal::Answer;
-use refusal::Refusal;
 ghost use mathlib.Core.Path.{_≡_};
 ghost use Prim.Native.Nat.{_≤_, _<_};
 ghost use lib.ListN.{length};
@@ -78,10 +77,7 @@ pub fn check_contents(file: &[u8]) -> Answer
     }
     let place = first_failing(file);
     if place < ENTRIES {
-        return Answer::Refused(Refusal {
-            number: refusal::CONTENTS,
-            place,
-        });
+        return refusal::refused_at(refusal::CONTENTS, place);
     }
     Answer::Done
 }

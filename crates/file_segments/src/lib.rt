@@ -1,6 +1,5 @@
 // The memory body of a run file: which segment fails, and the memory that the segments describe.
 use refusal::Answer;
-use refusal::Refusal;
 ghost use mathlib.Core.Path.{_≡_};
 ghost use Prim.Native.Nat.{_+_, _≤_, _<_};
 ghost use lib.ListN.{length, replicate};
@@ -43,10 +42,7 @@ pub fn check_segments(body: &[u8]) -> Answer
     let mut place: usize = 0;
     while p < body.len() {
         if fails_at(body, p, end) {
-            return Answer::Refused(Refusal {
-                number: refusal::SEGMENT,
-                place,
-            });
+            return refusal::refused_at(refusal::SEGMENT, place);
         }
         let size = two_bytes_at(body, p + LENGTH_AT);
         end = two_bytes_at(body, p) + size;

@@ -4,7 +4,6 @@ use refusal::Refusal;
 ghost use mathlib.Core.Path.{_≡_};
 ghost use Prim.Native.Nat.{_<_};
 ghost use lib.ListN.{length};
-ghost use Rattle.refusal.specs.Answers.{refusedAt};
 ghost use Rattle.layout.specs.Regions as R;
 ghost use Rattle.layout.specs.Layouts as S;
 ghost use Rattle.layout.specs.Promises as P;
@@ -152,12 +151,6 @@ fn first_collision(b: &[u8]) -> usize
     n
 }
 
-fn refused(number: u8, place: usize) -> Answer
-    ensures { λ r. ⌜ r ≡ refusedAt number place ⌝ }
-{
-    Answer::Refused(Refusal { number, place })
-}
-
 // Refusals 3 to 6.
 fn check_regions(b: &[u8]) -> Answer
     requires { ⌜ length (now b) ≡ S.layoutBytes ⌝ }
@@ -165,17 +158,17 @@ fn check_regions(b: &[u8]) -> Answer
 {
     let reversed = first_reversed(b);
     if reversed < REGIONS {
-        return refused(refusal::REGION_REVERSED, reversed);
+        return refusal::refused_at(refusal::REGION_REVERSED, reversed);
     }
     let missized = first_wrong_size(b);
     if missized < REGIONS {
-        return refused(refusal::REGION_SIZE, missized);
+        return refusal::refused_at(refusal::REGION_SIZE, missized);
     }
     if region_at(b, CR).holds(0) {
-        return refused(refusal::ZERO_IN_CODE, 0);
+        return refusal::refused_at(refusal::ZERO_IN_CODE, 0);
     }
     if first_collision(b) < REGIONS * REGIONS {
-        return refused(refusal::REGIONS_SHARE, 0);
+        return refusal::refused_at(refusal::REGIONS_SHARE, 0);
     }
     Answer::Done
 }

@@ -12,7 +12,7 @@ RefusesWith n r = row r ≡ refusedWith n
 
 -- `refused_at`: with this number, at this place
 abbrev pub RefusesAt : ℕ → ℕ → Answer → Type 0
-RefusesAt n p r = row r ≡ row (refusedAt n p)
+RefusesAt n p r = r ≡ refusedAt n p
 
 -- `numbers`: the page's, in its order
 abbrev pub ListsNumbers : List ℕ → Type 0

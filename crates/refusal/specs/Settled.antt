@@ -2,6 +2,7 @@
 use mathlib.Core.Path.{_≡_, refl, sym, ap, _∙_}
 use Prim.Native.Nat.{ℕ}
 use native.Mathlib.Omega.{arith}
+use Rattle.notions.specs.Settled.{equation-settled}
 use Rattle.refusal.specs.declared.Answer.{Answer}
 use Rattle.refusal.specs.declared.Answer.the-variants.{Done, Refused}
 use Rattle.refusal.specs.Answers.{row}
@@ -21,4 +22,4 @@ pub refuses-with-settled : (n : ℕ) (r q : Answer) → RefusesWith n r → Refu
 refuses-with-settled n r q p p′ = row-settled r q (p ∙ sym p′)
 
 pub refuses-at-settled : (n p : ℕ) (r q : Answer) → RefusesAt n p r → RefusesAt n p q → r ≡ q
-refuses-at-settled n p r q e f = row-settled r q (e ∙ sym f)
+refuses-at-settled n p = equation-settled

@@ -24,11 +24,15 @@ loop-holds c = (omega arith, omega arith, check-none (c .before .args .body .now
 fails-at-requires : tie.Need-fails-at-requires Inv-loop μ-loop
 fails-at-requires c κs = omega arith
 
+refused-at-requires : tie.Need-refused-at-requires Inv-loop μ-loop
+refused-at-requires c κs = tt
+
 returns : tie.Need-returns Inv-loop μ-loop
 returns c =
-    let h = c .before .before .before .loop in
-    let f = sym (c .before .fails-at .ensures) ∙ c .if1 .taken in
-    ap row (sym (check-found _ _ _ _ (h .inv .2) (c .before .before .loop-test .taken) f))
+    let y = c .before in
+    let h = y .before .before .before .loop in
+    let f = sym (y .before .fails-at .ensures) ∙ y .if1 .taken in
+    ap row (c .refused-at .ensures ∙ sym (check-found _ _ _ _ (h .inv .2) (y .before .before .loop-test .taken) f))
 
 add-two-bytes-at : tie.Need-add-two-bytes-at Inv-loop μ-loop
 add-two-bytes-at c =
@@ -89,6 +93,7 @@ check-segments-spec =
     μ-loop
     loop-holds
     fails-at-requires
+    refused-at-requires
     returns
     add-two-bytes-at
     two-bytes-at-requires

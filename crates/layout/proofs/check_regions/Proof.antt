@@ -11,20 +11,20 @@ use Rattle.layout.proofs.check_regions.Tie as tie
 first-reversed-requires : tie.Need-first-reversed-requires
 first-reversed-requires c κs = search needs
 
-refused-requires : tie.Need-refused-requires
-refused-requires c κs = tt
+refused-at-requires : tie.Need-refused-at-requires
+refused-at-requires c κs = tt
 
 returns : tie.Need-returns
 returns c =
     let f = c .before .before in
     let h = f .before .before in
-    reversed (h .args .b .now) (h .pre) _ (f .first-reversed .ensures) _ (c .refused .ensures) (c .before .if1 .taken)
+    reversed (h .args .b .now) (h .pre) _ (f .first-reversed .ensures) _ (c .refused-at .ensures) (c .before .if1 .taken)
 
 first-wrong-size-requires : tie.Need-first-wrong-size-requires
 first-wrong-size-requires c κs = search needs
 
-refused-requires-2 : tie.Need-refused-requires-2
-refused-requires-2 c κs = tt
+refused-at-requires-2 : tie.Need-refused-at-requires-2
+refused-at-requires-2 c κs = tt
 
 returns-2 : tie.Need-returns-2
 returns-2 c =
@@ -33,7 +33,7 @@ returns-2 c =
     missized (h .args .b .now) (h .pre)
     _ (o .before .first-reversed .ensures) (o .if1 .left)
     _ (c .before .before .first-wrong-size .ensures)
-    _ (c .refused2 .ensures) (c .before .if2 .taken)
+    _ (c .refused-at2 .ensures) (c .before .if2 .taken)
 
 region-at-requires : tie.Need-region-at-requires
 region-at-requires c κs = search needs
@@ -41,8 +41,8 @@ region-at-requires c κs = search needs
 holds-requires : tie.Need-holds-requires
 holds-requires c κs = tt
 
-refused-requires-3 : tie.Need-refused-requires-3
-refused-requires-3 c κs = tt
+refused-at-requires-3 : tie.Need-refused-at-requires-3
+refused-at-requires-3 c κs = tt
 
 returns-3 : tie.Need-returns-3
 returns-3 c =
@@ -55,7 +55,7 @@ returns-3 c =
     _ (o .before .first-reversed .ensures) (o .if1 .left)
     _ (s .before .first-wrong-size .ensures) (s .if2 .left)
     _ zero
-    _ (c .refused3 .ensures) (c .before .if3 .taken)
+    _ (c .refused-at3 .ensures) (c .before .if3 .taken)
 
 first-collision-requires : tie.Need-first-collision-requires
 first-collision-requires c κs = search needs
@@ -63,8 +63,8 @@ first-collision-requires c κs = search needs
 mul-if4 : tie.Need-mul-if4
 mul-if4 c = search needs
 
-refused-requires-4 : tie.Need-refused-requires-4
-refused-requires-4 c κs = tt
+refused-at-requires-4 : tie.Need-refused-at-requires-4
+refused-at-requires-4 c κs = tt
 
 returns-4 : tie.Need-returns-4
 returns-4 c =
@@ -78,7 +78,7 @@ returns-4 c =
     _ (s .before .first-wrong-size .ensures) (s .if2 .left)
     _ zero (z .if3 .left)
     _ (c .before .before .first-collision .ensures)
-    _ (c .refused4 .ensures) (c .before .if4 .taken)
+    _ (c .refused-at4 .ensures) (c .before .if4 .taken)
 
 returns-5 : tie.Need-returns-5
 returns-5 c =
@@ -98,17 +98,17 @@ check-regions-spec =
     tie.close
     (tie.spec
     first-reversed-requires
-    refused-requires
+    refused-at-requires
     returns
     first-wrong-size-requires
-    refused-requires-2
+    refused-at-requires-2
     returns-2
     region-at-requires
     holds-requires
-    refused-requires-3
+    refused-at-requires-3
     returns-3
     first-collision-requires
     mul-if4
-    refused-requires-4
+    refused-at-requires-4
     returns-4
     returns-5)

@@ -1,7 +1,8 @@
 -- `traces::fits` meets its contract. Assumes nothing.
 use borrow.Author.Needs.{needs}
-use mathlib.Core.Path.{sym, _∙_}
+use mathlib.Core.Path.{ap, sym, _∙_}
 use borrow.Author.Tests.{lt-ltb, le-ltb}
+use Rattle.refusal.specs.Answers.{row}
 use Rattle.traces.specs.Traces.{traceCheck}
 use Rattle.traces.proofs.fits.Statement.{statement}
 use Rattle.traces.proofs.fits.Tie as tie
@@ -40,13 +41,12 @@ refused-at-requires c κs = search needs
 returns-3 : tie.Need-returns-3
 unfolding traceCheck
 returns-3 c =
-    let at-first-unclean = c .before .before in
-    let at-there = at-first-unclean .before in
-    let y = at-there in
+    let u = c .before .before in
+    let y = u .before in
     let m = sym (y .before .before .misfits .ensures) ∙ y .before .if1 .left in
-    let f = sym (at-first-unclean .first-unclean .ensures) in
+    let f = sym (u .first-unclean .ensures) in
     record {
-      answered = c .refused-at .ensures
+      answered = ap row (c .refused-at .ensures)
           ∙ simp (m, le-ltb _ _ (y .if2 .left), f, lt-ltb _ _ (c .before .if3 .taken));
     }
 

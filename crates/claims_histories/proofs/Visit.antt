@@ -23,7 +23,7 @@ use Rattle.steps.specs.declared.Step.{Step}
 use Rattle.rules.specs.declared.Monitor.{Monitor}
 use Rattle.rules.specs.Rules.{writable, rule15, cause}
 use Rattle.monitor.specs.Decisions.{next, decidedMemory}
-use Rattle.rules.proofs.Laws.{unbroken-passes}
+use Rattle.rules.proofs.Laws.{no-more, nor, unbroken-passes}
 use Rattle.rules.proofs.None.{visit-lowest}
 use Rattle.effects.specs.Effects.{stored, storing, written}
 use Rattle.monitor.specs.Runs.{State, before}
@@ -56,34 +56,17 @@ module _ (l : Layout) (m : Monitor) (s : Step) (free : m .held ≡ false) where
       → s .dmaactive ≡ false
       → cause l m s ≡ 0
   outside-passes e o r w d =
-      unbroken-passes l m s (simp free) (
-        simp (o, r),
-        (
-          simp (free, eq-eqb (m .lastpc) (l .cr .hi) e, and-false),
-          (
-            simp (free, o, and-false),
-            (
-              simp (free, o, and-false),
-              (
-                simp (o, r, w),
-                (
-                  simp (free, o),
-                  (
-                    simp d,
-                    (
-                      simp d,
-                      (
-                        simp (d, free),
-                        (simp (o, w, d, and-false), tt),
-                      ),
-                    ),
-                  ),
-                ),
-              ),
-            ),
-          ),
-        ),
-      )
+      unbroken-passes l m s (simp free)
+      (nor (simp (o, r))
+      (nor (simp (free, eq-eqb (m .lastpc) (l .cr .hi) e, and-false))
+      (nor (simp (free, o, and-false))
+      (nor (simp (free, o, and-false))
+      (nor (simp (o, r, w))
+      (nor (simp (free, o))
+      (nor (simp d)
+      (nor (simp d)
+      (nor (simp (d, free))
+      (nor (simp (o, w, d, and-false)) no-more))))))))))
 
 -- ---- a visit
 

@@ -78,20 +78,24 @@ unfolding cause
 quiet-passes l m s e f = simp (e, quiet-lowest (broken l m s) f)
 
 -- none of the ten that are tried applies: one after another, by number from 1 on
-abbrev pub NoneHolds : List Bool → Type 0
-NoneHolds [] = Unit {0}
-NoneHolds (t ∷ ts) = (t ≡ false) × NoneHolds ts
+pub record NoneHolds (ts : List Bool) : Type 0 where
+  pub each : (k : ℕ) → getD ts k false ≡ false
 
-none-holds : (ts : List Bool) → NoneHolds ts → (k : ℕ) → getD ts k false ≡ false
-none-holds [] u k = refl
-none-holds (t ∷ ts) u zero = u .0
-none-holds (t ∷ ts) u (suc k) = none-holds ts (u .1) k
+pub no-more : NoneHolds []
+no-more = record { each = λ k. refl }
+
+nor-each : (t : Bool) (ts : List Bool) → t ≡ false → NoneHolds ts → (k : ℕ) → getD (t ∷ ts) k false ≡ false
+nor-each t ts e u zero = e
+nor-each t ts e u (suc k) = u .each k
+
+pub nor : {t : Bool} {ts : List Bool} → t ≡ false → NoneHolds ts → NoneHolds (t ∷ ts)
+nor {t} {ts} e u = record { each = nor-each t ts e u }
 
 abbrev pub Unbroken : Layout → Monitor → Step → Type 0
 Unbroken l m s = NoneHolds (inOrder (broken l m s))
 
 unbroken-quiet : (l : Layout) (m : Monitor) (s : Step) → Unbroken l m s → (k : ℕ) → numbered (broken l m s) k ≡ false
-unbroken-quiet l m s u = none-holds (false ∷ inOrder (broken l m s)) (refl, u)
+unbroken-quiet l m s u = nor refl u .each
 
 pub unbroken-lowest : (l : Layout) (m : Monitor) (s : Step) → Unbroken l m s → lowest (broken l m s) ≡ 0
 unbroken-lowest l m s u = quiet-lowest (broken l m s) (λ k h. unbroken-quiet l m s u k)

@@ -12,7 +12,7 @@ use Rattle.steps.specs.declared.Step.{Step}
 use Rattle.rules.specs.declared.Monitor.{Monitor}
 use Rattle.rules.specs.Rules.{writable, rule3, rule6, broken, lowest}
 use Rattle.rules.specs.Inner.{guarded, near, visits}
-use Rattle.rules.proofs.Laws.{rule-6, unbroken-lowest}
+use Rattle.rules.proofs.Laws.{rule-6, no-more, nor, unbroken-lowest}
 
 -- with PC and last PC outside CR, and the accesses outside KR, XS and CTR, no rule at all
 unguarded : (l : Layout) (a : ℕ) → guarded l a ≡ false
@@ -54,31 +54,14 @@ visit-lowest l m s e =
     simp (p .0) (entered (within (l .cr) (m .lastpc)) (eqb (s .pc) (l .cr .lo)) (p .1)) in
     let r6 : rule6 l s ≡ false =
     rule-6 l s ∙ simp (p .0) (lawful (s .cpuwrites) (writable l (s .cpuaddress)) (w .1)) in
-    unbroken-lowest l m s (
-      simp (p .0),
-      (
-        simp (p .0, and-false),
-        (
-          simp (r3, and-false),
-          (
-            simp (n .0, and-false),
-            (
-              simp (p .0),
-              (
-                simp (r6, and-false),
-                (
-                  simp (n .1),
-                  (
-                    simp (n .1),
-                    (
-                      simp (n .1, and-false),
-                      (simp (p .0, n .1, and-false), tt),
-                    ),
-                  ),
-                ),
-              ),
-            ),
-          ),
-        ),
-      ),
-    )
+    unbroken-lowest l m s
+    (nor (simp (p .0))
+    (nor (simp (p .0, and-false))
+    (nor (simp (r3, and-false))
+    (nor (simp (n .0, and-false))
+    (nor (simp (p .0))
+    (nor (simp (r6, and-false))
+    (nor (simp (n .1))
+    (nor (simp (n .1))
+    (nor (simp (n .1, and-false))
+    (nor (simp (p .0, n .1, and-false)) no-more))))))))))

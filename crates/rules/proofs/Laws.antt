@@ -39,6 +39,23 @@ held-away l m s e = simp e
 found-or-none : (b : Broken) → (n : ℕ) → first ruleNumbers (numbered b) ≡ n → n < ruleNumbers → lowest b ≡ n
 found-or-none b n e h = simp (e, lt-ltb n ruleNumbers h)
 
+-- asked in turn, the first rule that is broken has the lowest number
+pub lowest-in-turn : (r1 r2 r3 r4 r5 r6 r7 r8 r9 r10 : Bool)
+    → pick r1 1 (pick r2 2 (pick r3 3 (pick r4 4 (pick r5 5 (pick r6 6 (pick r7 7 (pick r8 8 (pick r9 9 (pick r10 10 0)))))))))
+    ≡ lowest (record { r1 = r1; r2 = r2; r3 = r3; r4 = r4; r5 = r5; r6 = r6; r7 = r7; r8 = r8; r9 = r9; r10 = r10 })
+unfolding first
+lowest-in-turn true r2 r3 r4 r5 r6 r7 r8 r9 r10 = refl
+lowest-in-turn false true r3 r4 r5 r6 r7 r8 r9 r10 = refl
+lowest-in-turn false false true r4 r5 r6 r7 r8 r9 r10 = refl
+lowest-in-turn false false false true r5 r6 r7 r8 r9 r10 = refl
+lowest-in-turn false false false false true r6 r7 r8 r9 r10 = refl
+lowest-in-turn false false false false false true r7 r8 r9 r10 = refl
+lowest-in-turn false false false false false false true r8 r9 r10 = refl
+lowest-in-turn false false false false false false false true r9 r10 = refl
+lowest-in-turn false false false false false false false false true r10 = refl
+lowest-in-turn false false false false false false false false false true = refl
+lowest-in-turn false false false false false false false false false false = refl
+
 -- number 0 is no rule
 found-above : (b : Broken) → 0 < first ruleNumbers (numbered b)
 unfolding first

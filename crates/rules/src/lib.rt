@@ -2,6 +2,7 @@
 use layout::Layout;
 use steps::Step;
 ghost use mathlib.Core.Path.{_≡_};
+ghost use Rattle.notions.specs.Choice.{pick};
 ghost use Rattle.rules.specs.Rules as R;
 ghost use Rattle.rules.specs.Inner as I;
 ghost use Rattle.rules.specs.Promises as P;
@@ -57,41 +58,27 @@ fn breaks(l: Layout, m: Monitor, s: Step) -> Broken
     }
 }
 
+// This rule's number if it is broken, else that of the rules behind it.
+fn number_if(broken: bool, number: u8, behind: u8) -> u8
+    ensures { λ r. ⌜ r ≡ pick broken number behind ⌝ }
+{
+    if broken { number } else { behind }
+}
+
 // The lowest rule of the ten, and 0 if none applies.
 fn lowest(b: Broken) -> u8
     ensures { λ r. ⌜ r ≡ R.lowest b ⌝ }
 {
-    if b.r1 {
-        return 1;
-    }
-    if b.r2 {
-        return 2;
-    }
-    if b.r3 {
-        return 3;
-    }
-    if b.r4 {
-        return 4;
-    }
-    if b.r5 {
-        return 5;
-    }
-    if b.r6 {
-        return 6;
-    }
-    if b.r7 {
-        return 7;
-    }
-    if b.r8 {
-        return 8;
-    }
-    if b.r9 {
-        return 9;
-    }
-    if b.r10 {
-        return 10;
-    }
-    0
+    let from10 = number_if(b.r10, 10, 0);
+    let from9 = number_if(b.r9, 9, from10);
+    let from8 = number_if(b.r8, 8, from9);
+    let from7 = number_if(b.r7, 7, from8);
+    let from6 = number_if(b.r6, 6, from7);
+    let from5 = number_if(b.r5, 5, from6);
+    let from4 = number_if(b.r4, 4, from5);
+    let from3 = number_if(b.r3, 3, from4);
+    let from2 = number_if(b.r2, 2, from3);
+    number_if(b.r1, 1, from2)
 }
 
 // CR is neither entered nor left, and no access is in a region that a rule guards. Most steps are so, and then none is broken.

@@ -1,161 +1,68 @@
 -- `rules::lowest` meets its contract. Assumes nothing.
-use Rattle.notions.specs.First.{first}
+use Rattle.rules.proofs.Laws.{lowest-in-turn}
 use Rattle.rules.proofs.lowest.Statement.{statement}
 use Rattle.rules.proofs.lowest.Tie as tie
 
+number-if-requires : tie.Need-number-if-requires
+number-if-requires c κs = tt
+
+number-if-requires-2 : tie.Need-number-if-requires-2
+number-if-requires-2 c κs = tt
+
+number-if-requires-3 : tie.Need-number-if-requires-3
+number-if-requires-3 c κs = tt
+
+number-if-requires-4 : tie.Need-number-if-requires-4
+number-if-requires-4 c κs = tt
+
+number-if-requires-5 : tie.Need-number-if-requires-5
+number-if-requires-5 c κs = tt
+
+number-if-requires-6 : tie.Need-number-if-requires-6
+number-if-requires-6 c κs = tt
+
+number-if-requires-7 : tie.Need-number-if-requires-7
+number-if-requires-7 c κs = tt
+
+number-if-requires-8 : tie.Need-number-if-requires-8
+number-if-requires-8 c κs = tt
+
+number-if-requires-9 : tie.Need-number-if-requires-9
+number-if-requires-9 c κs = tt
+
+number-if-requires-10 : tie.Need-number-if-requires-10
+number-if-requires-10 c κs = tt
+
 returns : tie.Need-returns
-unfolding first
-returns c = simp (c .if1 .taken)
-
-returns-2 : tie.Need-returns-2
-unfolding first
-returns-2 c = simp (c .if2 .taken, c .before .if1 .left)
-
-returns-3 : tie.Need-returns-3
-unfolding first
-returns-3 c = simp (c .if3 .taken, c .before .if2 .left, c .before .before .if1 .left)
-
-returns-4 : tie.Need-returns-4
-unfolding first
-returns-4 c =
-    let at-if2 = c .before .before in
-    let at-if1 = at-if2 .before in
-    simp (c .if4 .taken, c .before .if3 .left, at-if2 .if2 .left, at-if1 .if1 .left)
-
-returns-5 : tie.Need-returns-5
-unfolding first
-returns-5 c =
-    let at-if3 = c .before .before in
-    let at-if2 = at-if3 .before in
-    let at-if1 = at-if2 .before in
-    simp (c .if5 .taken, c .before .if4 .left, at-if3 .if3 .left, at-if2 .if2 .left, at-if1 .if1 .left)
-
-returns-6 : tie.Need-returns-6
-unfolding first
-returns-6 c =
-    let at-if4 = c .before .before in
-    let at-if3 = at-if4 .before in
-    let at-if2 = at-if3 .before in
-    let at-if1 = at-if2 .before in
-    simp (
-      c .if6 .taken,
-      c .before .if5 .left,
-      at-if4 .if4 .left,
-      at-if3 .if3 .left,
-      at-if2 .if2 .left,
-      at-if1 .if1 .left,
-    )
-
-returns-7 : tie.Need-returns-7
-unfolding first
-returns-7 c =
-    let at-if5 = c .before .before in
-    let at-if4 = at-if5 .before in
-    let at-if3 = at-if4 .before in
-    let at-if2 = at-if3 .before in
-    let at-if1 = at-if2 .before in
-    simp (
-      c .if7 .taken,
-      c .before .if6 .left,
-      at-if5 .if5 .left,
-      at-if4 .if4 .left,
-      at-if3 .if3 .left,
-      at-if2 .if2 .left,
-      at-if1 .if1 .left,
-    )
-
-returns-8 : tie.Need-returns-8
-unfolding first
-returns-8 c =
-    let at-if6 = c .before .before in
-    let at-if5 = at-if6 .before in
-    let at-if4 = at-if5 .before in
-    let at-if3 = at-if4 .before in
-    let at-if2 = at-if3 .before in
-    let at-if1 = at-if2 .before in
-    simp (
-      c .if8 .taken,
-      c .before .if7 .left,
-      at-if6 .if6 .left,
-      at-if5 .if5 .left,
-      at-if4 .if4 .left,
-      at-if3 .if3 .left,
-      at-if2 .if2 .left,
-      at-if1 .if1 .left,
-    )
-
-returns-9 : tie.Need-returns-9
-unfolding first
-returns-9 c =
-    let at-if7 = c .before .before in
-    let at-if6 = at-if7 .before in
-    let at-if5 = at-if6 .before in
-    let at-if4 = at-if5 .before in
-    let at-if3 = at-if4 .before in
-    let at-if2 = at-if3 .before in
-    let at-if1 = at-if2 .before in
-    simp (
-      c .if9 .taken,
-      c .before .if8 .left,
-      at-if7 .if7 .left,
-      at-if6 .if6 .left,
-      at-if5 .if5 .left,
-      at-if4 .if4 .left,
-      at-if3 .if3 .left,
-      at-if2 .if2 .left,
-      at-if1 .if1 .left,
-    )
-
-returns-10 : tie.Need-returns-10
-unfolding first
-returns-10 c =
-    let at-if8 = c .before .before in
-    let at-if7 = at-if8 .before in
-    let at-if6 = at-if7 .before in
-    let at-if5 = at-if6 .before in
-    let at-if4 = at-if5 .before in
-    let at-if3 = at-if4 .before in
-    let at-if2 = at-if3 .before in
-    let at-if1 = at-if2 .before in
-    simp (
-      c .if10 .taken,
-      c .before .if9 .left,
-      at-if8 .if8 .left,
-      at-if7 .if7 .left,
-      at-if6 .if6 .left,
-      at-if5 .if5 .left,
-      at-if4 .if4 .left,
-      at-if3 .if3 .left,
-      at-if2 .if2 .left,
-      at-if1 .if1 .left,
-    )
-
-returns-11 : tie.Need-returns-11
-unfolding first
-returns-11 c =
-    let at-if8 = c .before .before in
-    let at-if7 = at-if8 .before in
-    let at-if6 = at-if7 .before in
-    let at-if5 = at-if6 .before in
-    let at-if4 = at-if5 .before in
-    let at-if3 = at-if4 .before in
-    let at-if2 = at-if3 .before in
-    let at-if1 = at-if2 .before in
-    simp (
-      c .if10 .left,
-      c .before .if9 .left,
-      at-if8 .if8 .left,
-      at-if7 .if7 .left,
-      at-if6 .if6 .left,
-      at-if5 .if5 .left,
-      at-if4 .if4 .left,
-      at-if3 .if3 .left,
-      at-if2 .if2 .left,
-      at-if1 .if1 .left,
-    )
+returns c =
+    let y9 = c .before in
+    let y8 = y9 .before in
+    let y7 = y8 .before in
+    let y6 = y7 .before in
+    let y5 = y6 .before in
+    let y4 = y5 .before in
+    let y3 = y4 .before in
+    let y2 = y3 .before in
+    let y1 = y2 .before in
+    let h = y1 .before .args in
+    simp (c .number-if10 .ensures, y9 .number-if9 .ensures, y8 .number-if8 .ensures, y7 .number-if7 .ensures,
+    y6 .number-if6 .ensures, y5 .number-if5 .ensures, y4 .number-if4 .ensures, y3 .number-if3 .ensures,
+    y2 .number-if2 .ensures, y1 .number-if .ensures)
+    (lowest-in-turn (h .b .r1) (h .b .r2) (h .b .r3) (h .b .r4) (h .b .r5) (h .b .r6) (h .b .r7) (h .b .r8)
+    (h .b .r9) (h .b .r10))
 
 pub lowest-spec : {M : Type 1} → statement M
 lowest-spec =
     tie.close
-    (tie.spec returns returns-2 returns-3 returns-4 returns-5 returns-6 returns-7 returns-8 returns-9 returns-10
-    returns-11)
+    (tie.spec
+    number-if-requires
+    number-if-requires-2
+    number-if-requires-3
+    number-if-requires-4
+    number-if-requires-5
+    number-if-requires-6
+    number-if-requires-7
+    number-if-requires-8
+    number-if-requires-9
+    number-if-requires-10
+    returns)

@@ -45,9 +45,18 @@ returns c =
     let y2 = y3 .before in
     let y1 = y2 .before in
     let h = y1 .before .args in
-    simp (c .number-if10 .ensures, y9 .number-if9 .ensures, y8 .number-if8 .ensures, y7 .number-if7 .ensures,
-    y6 .number-if6 .ensures, y5 .number-if5 .ensures, y4 .number-if4 .ensures, y3 .number-if3 .ensures,
-    y2 .number-if2 .ensures, y1 .number-if .ensures)
+    simp (
+      c .number-if10 .ensures,
+      y9 .number-if9 .ensures,
+      y8 .number-if8 .ensures,
+      y7 .number-if7 .ensures,
+      y6 .number-if6 .ensures,
+      y5 .number-if5 .ensures,
+      y4 .number-if4 .ensures,
+      y3 .number-if3 .ensures,
+      y2 .number-if2 .ensures,
+      y1 .number-if .ensures,
+    )
     (lowest-in-turn (h .b .r1) (h .b .r2) (h .b .r3) (h .b .r4) (h .b .r5) (h .b .r6) (h .b .r7) (h .b .r8)
     (h .b .r9) (h .b .r10))
 

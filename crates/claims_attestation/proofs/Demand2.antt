@@ -37,7 +37,7 @@ use Rattle.claims_attestation.specs.Demand2 as claim
 use Rattle.claims_attestation.specs.Demand2.{SameRequest, Agrees, posted}
 use Rattle.conditions.proofs.Answers.{lent-either}
 use Rattle.claims_attestation.proofs.Accepts.{Accepts, accepts}
-use Rattle.claims_attestation.proofs.Posted.{request-is, request-done}
+use Rattle.claims_attestation.proofs.Posted.{request-is, request-key, request-attested, request-done}
 
 -- ---- the routine, on the board
 
@@ -193,7 +193,7 @@ module _ (memory layout memory′ : List ℕ) (b : Bytes layout) (p : Attests me
         most = most;
       }
 
-  agrees : Agrees l memory memory′
+  agrees : Agrees (key l memory) (challenge l memory) (attested l memory) (replied l memory′)
   agrees =
       let w = call .lies in
       let n = board.length-attested l w memory (call .allowed .long) in
@@ -230,8 +230,11 @@ request-served memory layout c memory′ made r b long good lc fresh makes p =
     let d =
     row-settled r (attestCheck m layout) (p .answered)
     ∙ request-done layout b good memory c (made .bytes) long lc t fresh in
-    let q = subst (Attests m layout memory′) d p in (
+    let q = subst (Attests m layout memory′) d p in
+    let is = request-is layout b good memory c (made .bytes) long lc t in
+    let k = request-key layout b good memory c (made .bytes) long lc t in
+    let a = request-attested layout b good memory c (made .bytes) long lc t in (
       d,
-      answers-so m layout memory′ b q .counted ∙ request-is layout b good memory c (made .bytes) long lc t,
-      agrees m layout memory′ b q,
+      answers-so m layout memory′ b q .counted ∙ is,
+      rw (← is, ← k, ← a) (agrees m layout memory′ b q),
     )

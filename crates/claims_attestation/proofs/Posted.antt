@@ -1,31 +1,30 @@
--- A request put into the mailbox: it is read there, CR, KR and CTR are as before, and a token for a challenge above CTR
--- is accepted. Assumes nothing.
+-- A request put into the mailbox: it is read there, every other region is as before, and a token for a challenge above
+-- CTR is accepted. Assumes nothing.
 use mathlib.Core.Path.{_≡_, refl, sym, ap, _∙_}
 use mathlib.Core.Logic.{_⊎_, inl, inr}
-use mathlib.Core.Bool.{true}
+use mathlib.Core.Bool.{true, false}
 use mathlib.Core.List.{List}
-use Prim.Native.Nat.{ℕ, _+_, _≤_}
+use Prim.Native.Nat.{ℕ, _+_, _<_}
 use native.Mathlib.Omega.{arith}
-use lib.ListN.{length}
+use lib.ListN.{length, getD}
 use lib.Seq.{sets, length-sets}
 use Rattle.notions.specs.Bytes.{Bytes}
 use Rattle.refusal.specs.declared.Answer.the-variants.{Done}
-use Rattle.layout.specs.declared.Region.{Region}
 use Rattle.layout.specs.declared.Layout.{Layout}
-use Rattle.layout.specs.Layouts.{layoutOf}
-use Rattle.layout.specs.Regions.{size}
+use Rattle.layout.specs.Regions.{within}
+use Rattle.layout.specs.Layouts.{CR, KR, MR, CTR, AR, regions, region, mayShare, layoutOf}
 use Rattle.layout.specs.Calls.{memoryBytes}
 use Rattle.layout.specs.Good.{Good}
-use Rattle.layout.proofs.Laws.{good-done}
+use Rattle.layout.proofs.Laws.{good-done, outside-ends, elsewhere}
 use Rattle.layout.proofs.Placed.{Placed, placed}
 use Rattle.hmac.proofs.Laws.{length-hmac}
 use Rattle.routine.specs.Strings.{greater}
 use Rattle.routine.specs.Routine.{token}
 use Rattle.routine.proofs.Laws.{token-is}
-use Rattle.board.specs.Memory.{bytesOf, key, counter, challenge, received}
+use Rattle.board.specs.Memory.{bytesOf, key, counter, attested, challenge, received}
 use Rattle.board.specs.Attestation.{attestCheck}
-use Rattle.board.proofs.Stores.{stored-there, stored-apart}
-use Rattle.board.proofs.Laws.{allowed-done}
+use Rattle.board.proofs.Stores.{stored-there, stored-off, stored-apart}
+use Rattle.board.proofs.Laws.{region-agrees, allowed-done}
 use Rattle.claims_attestation.specs.Demand2.{posted}
 
 module _ (layout : List ℕ) (b : Bytes layout) (good : Good layout) (memory c t : List ℕ)
@@ -61,24 +60,38 @@ module _ (layout : List ℕ) (b : Bytes layout) (good : Good layout) (memory c t
       stored-there asked (l .mr .lo + 32) 32 t token-long
       (omega (arith, length-sets memory (l .mr .lo) c, lies .mail-in))
 
-  -- a region of n bytes that lies apart from MR's first 96 stays
-  request-apart : (r : Region) (n : ℕ) → size r ≡ n → (l .mr .lo + 96 ≤ r .lo) ⊎ (r .lo + n ≤ l .mr .lo)
-      → bytesOf r request ≡ bytesOf r memory
-  request-apart r n s o =
+  -- a byte outside MR stays, and so does every other region
+  pub request-else : (a : ℕ) → within (l .mr) a ≡ false → getD request a 0 ≡ getD memory a 0
+  request-else a o =
       let m = token-long in
-      stored-apart asked (l .mr .lo + 32) t (r .lo) (size r)
-      (elim o [ inl h ↦ inr (omega arith) | inr h ↦ inl (omega arith) ])
-      ∙ stored-apart memory (l .mr .lo) c (r .lo) (size r)
-      (elim o [ inl h ↦ inr (omega arith) | inr h ↦ inl (omega arith) ])
+      let n = lies .mail in
+      stored-off asked (l .mr .lo + 32) t a
+      (elim (outside-ends (l .mr) a o) [ inl h ↦ inl (omega arith) | inr h ↦ inr (omega arith) ])
+      ∙ stored-off memory (l .mr .lo) c a
+      (elim (outside-ends (l .mr) a o) [ inl h ↦ inl (omega arith) | inr h ↦ inr (omega arith) ])
+
+  request-region : (k : ℕ) → k < regions → (k ≡ MR → ⊥) → mayShare k MR ≡ false → mayShare MR k ≡ false
+      → bytesOf (region layout k) request ≡ bytesOf (region layout k) memory
+  unfolding layoutOf
+  request-region k h n u v =
+      region-agrees (region layout k) request memory request-long
+      (λ a w. request-else a (elsewhere good k MR h (omega arith) n u v a w))
 
   pub request-code : bytesOf (l .cr) request ≡ bytesOf (l .cr) memory
-  request-code = request-apart (l .cr) (size (l .cr)) refl (lies .code-apart)
+  unfolding layoutOf
+  request-code = request-region CR (omega arith) (λ e. omega arith) refl refl
 
   pub request-key : key l request ≡ key l memory
-  request-key = request-apart (l .kr) 64 (lies .key) (lies .key-apart)
+  unfolding layoutOf
+  request-key = request-region KR (omega arith) (λ e. omega arith) refl refl
 
   pub request-counter : counter l request ≡ counter l memory
-  request-counter = request-apart (l .ctr) 32 (lies .counter) (lies .apart)
+  unfolding layoutOf
+  request-counter = request-region CTR (omega arith) (λ e. omega arith) refl refl
+
+  pub request-attested : attested l request ≡ attested l memory
+  unfolding layoutOf
+  request-attested = request-region AR (omega arith) (λ e. omega arith) refl refl
 
   pub request-done : greater c (counter l memory) ≡ true → attestCheck request layout ≡ Done
   request-done fresh =

@@ -133,18 +133,17 @@ YesTwice =
 
 -- ---- board and station agree
 
--- what the station says to the reply that a board then holds
-pub record Agrees (l : Layout) (memory memory′ : List ℕ) : Type 0 where
-  -- for AR as it was: yes
-  pub same : (v : Verdict)
-      → ChecksReply (key l memory) (challenge l memory) (replied l memory′) (attested l memory) v → v ≡ Yes
+-- what the station, with the key k and the challenge c, says to a reply that a board gave for a region
+pub record Agrees (k c region given : List ℕ) : Type 0 where
+  -- for that region: yes
+  pub same : (v : Verdict) → ChecksReply k c given region v → v ≡ Yes
   -- for another expected region: yes exactly if the routine's replies for the two are equal
   pub other : (expected : List ℕ) (v : Verdict) → 1 ≤ length expected → length expected ≤ 65536
-      → ChecksReply (key l memory) (challenge l memory) (replied l memory′) expected v
-      → (let due = reply (key l memory) (challenge l memory) in
-      (v ≡ Yes) ↔ (due expected ≡ due (attested l memory)))
+      → ChecksReply k c given expected v
+      → (v ≡ Yes) ↔ (reply k c expected ≡ reply k c region)
 
--- the station makes a token for a challenge above CTR with the board's key: the board accepts it, and they agree
+-- the station makes a token for a challenge above CTR with the board's key: the board accepts it, and they agree on AR
+-- as it was
 abbrev pub BoardAndStation : Type 0
 BoardAndStation =
     (memory layout memory′ : List ℕ) (made : Bytes32) (r : Answer)
@@ -154,21 +153,20 @@ BoardAndStation =
     → MakesToken (key l memory) (challenge l memory) made
     → received l memory ≡ made .bytes
     → Attests memory layout memory′ r
-    → (r ≡ call.Done) × Agrees l memory memory′)
+    → (r ≡ call.Done) × Agrees (key l memory) (challenge l memory) (attested l memory) (replied l memory′))
 
 -- the memory with a challenge and a token put into the mailbox
 abbrev pub posted : Layout → List ℕ → List ℕ → List ℕ → List ℕ
 posted l c t memory = sets (sets memory (l .mr .lo) c) (l .mr .lo + 32) t
 
 -- so every request of the station is served, whatever else the memory holds: the counter is then the challenge, and
--- they agree
+-- they agree, by the board's own key and challenge c, on AR as it stood before the request came
 abbrev pub RequestServed : Type 0
 RequestServed =
     (memory layout c memory′ : List ℕ) (made : Bytes32) (r : Answer)
     → Bytes layout → length memory ≡ memoryBytes → Good layout → length c ≡ 32
     → (let l = layoutOf layout in
-    let m = posted l c (made .bytes) memory in
     greater c (counter l memory) ≡ true
     → MakesToken (key l memory) c made
-    → Attests m layout memory′ r
-    → (r ≡ call.Done) × (counter l memory′ ≡ c) × Agrees l m memory′)
+    → Attests (posted l c (made .bytes) memory) layout memory′ r
+    → (r ≡ call.Done) × (counter l memory′ ≡ c) × Agrees (key l memory) c (attested l memory) (replied l memory′))

@@ -1,28 +1,34 @@
 -- The routine on the board, the station, and both together: the claims of demand 2. Assumes nothing.
-use mathlib.Core.Path.{_≡_, sym, ap, subst, _∙_}
-use mathlib.Core.Bool.{true}
+use mathlib.Core.Path.{_≡_, refl, sym, ap, subst, _∙_}
+use mathlib.Core.Logic.{_≢_}
+use mathlib.Core.Bool.{true, false}
 use mathlib.Core.List.{List}
-use Prim.Native.Nat.{ℕ, _+_, _≤_}
+use Prim.Native.Nat.{ℕ, _+_, _≤_, _<_}
 use native.Mathlib.Nat.{add-zero}
 use native.Mathlib.Omega.{arith}
 use lib.ListN.{length, getD}
 use Rattle.notions.specs.Bytes.{Bytes}
+use Rattle.refusal.specs.Answers.{row, refusedAt}
+use Rattle.refusal.specs.Numbers.{regionsShare, challengeNotGreater, tokenDiffers}
 use Rattle.refusal.specs.Settled.{row-settled}
 use Rattle.refusal.specs.declared.Answer.{Answer}
-use Rattle.refusal.specs.declared.Answer.the-variants.{Done}
-use Rattle.notions.proofs.Tests.{cases, clash}
+use Rattle.refusal.specs.declared.Answer.the-variants.{Done, Refused}
+use Rattle.refusal.proofs.Order.{refuses-none}
+use Rattle.notions.proofs.Tests.{cases, clash, untrue}
 use Rattle.layout.specs.declared.Region.{Region}
 use Rattle.layout.specs.declared.Layout.{Layout}
 use Rattle.layout.specs.Regions.{within, size}
 use Rattle.layout.specs.Layouts.{layoutOf}
 use Rattle.layout.specs.Good.{Good}
-use Rattle.layout.specs.Calls.{memoryBytes}
+use Rattle.layout.specs.Calls.{memoryBytes, callCheck}
 use Rattle.layout.proofs.Laws.{done-good, good-done, within-ends}
-use Rattle.layout.proofs.Calls.{call-rest}
+use Rattle.layout.proofs.Calls.{call-passed, call-rest, call-refused, call-numbers}
 use Rattle.layout.proofs.Placed.{placed}
 use Rattle.sha256.proofs.Laws.{gives-bytes}
-use Rattle.routine.specs.Routine.{reply, requestCheck}
-use Rattle.routine.proofs.Laws.{token-is, reply-is, length-reply, request-old, request-forged}
+use Rattle.routine.specs.Strings.{greater, same}
+use Rattle.routine.specs.Routine.{token, reply, requestCheck}
+use Rattle.routine.proofs.Order.{equal-same, same-equal}
+use Rattle.routine.proofs.Laws.{token-is, reply-is, length-reply, request-passes, request-old, request-forged}
 use Rattle.board.specs.Memory.{bytesAt, key, counter, attested, challenge, received, replyAt, replied}
 use Rattle.board.specs.Attestation.{requestCheckIn, attestCheck, accepted, storesTo}
 use Rattle.board.specs.Promises.{Attests}
@@ -62,6 +68,34 @@ answers-so memory layout memory′ b p = accepts memory layout memory′ b p .se
 pub refuses-so : claim.RefusesSo
 refuses-so = attested-refused
 
+one-number : (n m : ℕ) → refusedAt n 0 ≡ refusedAt m 0 → n ≡ m
+one-number n m e = ap (λ (a : Answer). getD (row a) 0 0) e
+
+-- refused with 10, the challenge is not greater than the counter; with 11, it is and the token is another
+old-request : (k challenge received counter : List ℕ)
+    → requestCheck k challenge received counter ≡ refusedAt challengeNotGreater 0
+    → greater challenge counter ≡ false
+old-request k c t n e =
+    untrue (greater c n)
+    (λ g. cases (same (token k c) t)
+    (λ h. let z : _≡_ {A = ℕ} 0 1 = cc (e, request-passes k c t n g (same-equal (token k c) t h)) in omega arith)
+    (λ h.
+    let z =
+    one-number challengeNotGreater tokenDiffers
+    (sym e ∙ request-forged k c t n g (λ q. clash (same (token k c) t) (equal-same (token k c) t q) h)) in
+    omega arith))
+
+forged-request : (k challenge received counter : List ℕ)
+    → requestCheck k challenge received counter ≡ refusedAt tokenDiffers 0
+    → (greater challenge counter ≡ true) × (token k challenge ≢ received)
+forged-request k c t n e =
+    let g : greater c n ≡ true =
+    cases (greater c n) (λ g. g)
+    (λ g.
+    let z = one-number tokenDiffers challengeNotGreater (sym e ∙ request-old k c t n g) in
+    absurd (omega arith)) in
+    (g, λ q. let z : _≡_ {A = ℕ} 0 1 = cc (e, request-passes k c t n g q) in omega arith)
+
 -- by steps 1 and 2
 request-refused : (memory layout memory′ : List ℕ) (r q : Answer) → Attests memory layout memory′ r
     → length memory ≡ memoryBytes → Good layout
@@ -70,13 +104,45 @@ unfolding attestCheck
 request-refused memory layout memory′ r q p long good e =
     row-settled r (attestCheck memory layout) (p .answered) ∙ call-rest memory layout _ long (good-done layout good) ∙ e
 
+-- a call that is refused with a number over 6 is refused by steps 1 and 2
+refused-request : (memory layout memory′ : List ℕ) (r : Answer) (n : ℕ) → Attests memory layout memory′ r
+    → regionsShare < n → r ≡ refusedAt n 0
+    → (length memory ≡ memoryBytes) × Good layout × (requestCheckIn (layoutOf layout) memory ≡ refusedAt n 0)
+unfolding attestCheck
+refused-request memory layout memory′ r n p h e =
+    let rest = requestCheckIn (layoutOf layout) memory in
+    by-first (callCheck memory layout Done) refl
+    (sym (row-settled r (attestCheck memory layout) (p .answered)) ∙ e)
+  where
+    by-first : (a : Answer) → callCheck memory layout Done ≡ a
+        → callCheck memory layout (requestCheckIn (layoutOf layout) memory) ≡ refusedAt n 0
+        → (length memory ≡ memoryBytes) × Good layout × (requestCheckIn (layoutOf layout) memory ≡ refusedAt n 0)
+    by-first Done c d =
+        let q = call-passed memory layout Done c in
+        (q .0, done-good layout (q .1), sym (call-rest memory layout _ (q .0) (q .1)) ∙ d)
+    by-first (Refused q) c d =
+        let z : n ≡ q .number = cc (call-refused memory layout (requestCheckIn (layoutOf layout) memory) q c) in
+        let m = call-numbers (λ k. k ≤ regionsShare) memory layout Done (λ k u v. v) (refuses-none _) q c in
+        absurd (omega arith)
+
 pub old-refused : claim.OldRefused
-old-refused memory layout memory′ r p long good g =
-    request-refused memory layout memory′ r _ p long good (request-old _ _ _ _ g)
+old-refused memory layout memory′ r p = (
+  λ e.
+      let q = refused-request memory layout memory′ r challengeNotGreater p (omega arith) e in
+      (q .0, q .1, old-request _ _ _ _ (q .2)),
+  λ q. request-refused memory layout memory′ r _ p (q .0) (q .1) (request-old _ _ _ _ (q .2)),
+)
 
 pub forged-refused : claim.ForgedRefused
-forged-refused memory layout memory′ r p long good g n =
-    request-refused memory layout memory′ r _ p long good (request-forged _ _ _ _ g (λ e. n (sym e ∙ token-is _ _)))
+forged-refused memory layout memory′ r p = (
+  λ e.
+      let q = refused-request memory layout memory′ r tokenDiffers p (omega arith) e in
+      let f = forged-request _ _ _ _ (q .2) in
+      (q .0, q .1, f .0, λ g. f .1 (token-is _ _ ∙ sym g)),
+  λ q.
+      request-refused memory layout memory′ r _ p (q .0) (q .1)
+      (request-forged _ _ _ _ (q .2) (λ e. q .3 (sym e ∙ token-is _ _))),
+)
 
 pub stores-bytes : claim.StoresBytes
 stores-bytes memory layout memory′ r b p =
@@ -193,7 +259,7 @@ module _ (memory layout memory′ : List ℕ) (b : Bytes layout) (p : Attests me
         most = most;
       }
 
-  agrees : Agrees (key l memory) (challenge l memory) (attested l memory) (replied l memory′)
+  pub agrees : Agrees (key l memory) (challenge l memory) (attested l memory) (replied l memory′)
   agrees =
       let w = call .lies in
       let n = board.length-attested l w memory (call .allowed .long) in

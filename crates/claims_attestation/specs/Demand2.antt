@@ -65,23 +65,22 @@ RefusesSo =
     (memory layout memory′ : List ℕ) (q : Refusal) → Attests memory layout memory′ (call.Refused q)
     → Listed (q .number) × (memory′ ≡ memory)
 
--- an old request, for a challenge that is not greater than CTR, is refused with 10 whatever its token
+-- refused with 10 is exactly an old request, for a challenge that is not greater than CTR, whatever its token
 abbrev pub OldRefused : Type 0
 OldRefused =
     (memory layout memory′ : List ℕ) (r : Answer) → Attests memory layout memory′ r
-    → length memory ≡ memoryBytes → Good layout
-    → greater (challenge (layoutOf layout) memory) (counter (layoutOf layout) memory) ≡ false
-    → r ≡ refusedAt challengeNotGreater 0
+    → (let l = layoutOf layout in
+    (r ≡ refusedAt challengeNotGreater 0)
+    ↔ ((length memory ≡ memoryBytes) × Good layout × (greater (challenge l memory) (counter l memory) ≡ false)))
 
--- one whose token is not T, with 11
+-- and with 11 exactly one for a greater challenge, whose token is not T
 abbrev pub ForgedRefused : Type 0
 ForgedRefused =
     (memory layout memory′ : List ℕ) (r : Answer) → Attests memory layout memory′ r
-    → length memory ≡ memoryBytes → Good layout
     → (let l = layoutOf layout in
-    greater (challenge l memory) (counter l memory) ≡ true
-    → received l memory ≢ hmac (key l memory) (challenge l memory)
-    → r ≡ refusedAt tokenDiffers 0)
+    (r ≡ refusedAt tokenDiffers 0)
+    ↔ ((length memory ≡ memoryBytes) × Good layout × (greater (challenge l memory) (counter l memory) ≡ true)
+    × (received l memory ≢ hmac (key l memory) (challenge l memory))))
 
 -- what it stores are bytes
 abbrev pub StoresBytes : Type 0

@@ -9,16 +9,18 @@ use lib.Dec.{eqb, ltb}
 use lib.ListN.{length}
 use borrow.Author.Tests.{eqb-true, eqb-false, ltb-true, ltb-false}
 use Rattle.notions.specs.Bytes.{Bytes}
-use Rattle.refusal.specs.Answers.{afterCall}
-use Rattle.refusal.specs.Settled.{row-settled}
+use Rattle.refusal.specs.Answers.{refusedAt, afterCall}
+use Rattle.refusal.specs.Numbers.{challengeNotGreater}
 use Rattle.refusal.specs.declared.Answer.{Answer}
 use Rattle.refusal.specs.declared.Answer.the-variants.{Done, Refused}
 use Rattle.notions.proofs.Tests.{cases, clash, untrue}
 use Rattle.layout.specs.declared.Layout.{Layout}
-use Rattle.layout.specs.Regions.{within}
+use Rattle.layout.specs.Regions.{within, size}
 use Rattle.layout.specs.Layouts.{layoutOf}
 use Rattle.layout.specs.Calls.{memoryBytes, callCheck}
 use Rattle.layout.specs.Good.{Good}
+use Rattle.layout.proofs.Laws.{good-done}
+use Rattle.layout.proofs.Placed.{placed}
 use Rattle.steps.specs.declared.Step.{Step}
 use Rattle.monitor.specs.Decisions.{decidedMemory}
 use Rattle.monitor.specs.Runs.{State, begin, before, memoryAfter}
@@ -26,19 +28,21 @@ use Rattle.traces.specs.Traces.{count, steps}
 use Rattle.traces.specs.Traces.{traceCheck, stepCheck}
 use Rattle.routine.specs.Strings.{greater}
 use Rattle.routine.specs.Routine.{token}
-use Rattle.routine.proofs.Order.{greater-irreflexive, greater-trans, weight-greater}
+use Rattle.routine.proofs.Order.{greater-irreflexive, greater-trans, not-greater, weight-greater}
 use Rattle.board.specs.Memory.{key, counter, challenge}
-use Rattle.board.specs.Attestation.{attestCheck, accepted}
+use Rattle.board.specs.Attestation.{accepted}
 use Rattle.board.specs.Promises.{Attests}
 use Rattle.board.proofs.Stores.{bytes-read}
-use Rattle.board.proofs.Laws.{region-agrees, length-challenge, allowed-done, attested-done, attested-refused}
+use Rattle.board.proofs.Laws.{length-bytes, region-agrees, length-challenge, attested-refused}
+use Rattle.station.specs.declared.Verdict.{Verdict}
 use Rattle.claims_monitor.specs.Traces.{remembers, byteAt}
 use Rattle.claims_attestation.specs.Demand2.{posted}
 use Rattle.claims_histories.specs.History as claim
 use Rattle.claims_histories.specs.History.{Event, attest, trace, change, Keeps, storesCounter, Happens, History}
-use Rattle.claims_histories.specs.History.{Accepted, counterAt}
+use Rattle.claims_histories.specs.History.{Accepted, counterAt, Checked, Tells}
 use Rattle.conditions.proofs.Answers.{lent-either}
-use Rattle.claims_attestation.proofs.Accepts.{accepts}
+use Rattle.claims_attestation.proofs.Accepts.{accepts, accepted-key}
+use Rattle.claims_attestation.proofs.Demand2.{old-refused, agrees}
 use Rattle.claims_attestation.proofs.Posted.{request-long, request-is, request-code, request-key, request-counter}
 use Rattle.claims_attestation.proofs.Posted.{request-done}
 use Rattle.claims_monitor.proofs.Traces.{length-kept, stays-through, rom, guarded}
@@ -155,12 +159,16 @@ old-stays-old h i j p q c e =
     (λ g. clash (greater c (counterAt h i))
     (greater-rises (counterAt h i) (counterAt h j) c (counter-rises h i j p q) g) e)
 
+accepted-attests : (h : History) (i : ℕ) (c : List ℕ) → Accepted h i c
+    → Attests (h .memories i) (h .layout) (h .memories (suc i)) Done
+accepted-attests h i c a =
+    subst (λ (e : Event). Happens (h .layout) e (h .memories i) (h .memories (suc i))) (a .event)
+    (h .happens i (a .happened))
+
 accepted-raises : (h : History) (i : ℕ) (c : List ℕ) → Accepted h i c
     → Raises (layoutOf (h .layout)) (h .memories i) (h .memories (suc i))
 accepted-raises h i c a =
-    raises (h .layout) (h .memories i) (h .memories (suc i)) (h .in-bytes)
-    (subst (λ (e : Event). Happens (h .layout) e (h .memories i) (h .memories (suc i))) (a .event)
-    (h .happens i (a .happened)))
+    raises (h .layout) (h .memories i) (h .memories (suc i)) (h .in-bytes) (accepted-attests h i c a)
 
 pub increase : claim.Increase
 increase h i j c d a b t =
@@ -208,6 +216,98 @@ later-is-larger h i j c d a b = (
       b .request ∙ ap (λ (m : ℕ). challenge (layoutOf (h .layout)) (h .memories m)) (sym e) ∙ sym (a .request) in
       never c (rw f at g)),
 )
+
+-- ---- refused as old
+
+-- the memory keeps its length at every event
+event-long : (layout : List ℕ) → Bytes layout → (e : Event) (x y : List ℕ) → Happens layout e x y → length y ≡ length x
+event-long layout h (attest Done) x y p = accepts x layout y h p .served .long
+event-long layout h (attest (Refused r)) x y p = ap length (attested-refused x layout y r p .1)
+event-long layout h (trace b r) x y p = trace-keeps x layout b (p .0 .0) y (p .0 .1) r (p .0 .2) (p .1) .long
+event-long layout h change x y p = p .long
+
+-- what every event keeps is before event j as it was before event i
+kept-since : {A : Type 0} (h : History) (f : List ℕ → A)
+    → ((e : Event) (x y : List ℕ) → Happens (h .layout) e x y → f y ≡ f x)
+    → (i j : ℕ) → i ≤ j → j ≤ h .n → f (h .memories j) ≡ f (h .memories i)
+kept-since h f each i zero p q =
+    let e : 0 ≡ i = omega arith in
+    ap (λ (k : ℕ). f (h .memories k)) e
+kept-since h f each i (suc j) p q =
+    cases (eqb i (suc j)) (λ t. ap (λ (k : ℕ). f (h .memories k)) (sym (eqb-true i (suc j) t)))
+    (λ t.
+    let o : i ≢ suc j = eqb-false i (suc j) t in
+    each (h .events j) (h .memories j) (h .memories (suc j)) (h .happens j q)
+    ∙ kept-since h f each i j (omega arith) (omega arith))
+
+-- the call at event j, whose memory has as many bytes as one before, and whose layout passes
+old-at : (h : History) (i j : ℕ) → i ≤ j → j < h .n → length (h .memories i) ≡ memoryBytes → Good (h .layout)
+    → (r : Answer) → h .events j ≡ attest r
+    → greater (challenge (layoutOf (h .layout)) (h .memories j)) (counterAt h j) ≡ false
+    → r ≡ refusedAt challengeNotGreater 0
+old-at h i j p q long good r e g =
+    old-refused (h .memories j) (h .layout) (h .memories (suc j)) r
+    (subst (λ (k : Event). Happens (h .layout) k (h .memories j) (h .memories (suc j))) e (h .happens j q)) .1
+    (kept-since h length (event-long (h .layout) (h .in-bytes)) i j p (omega arith) ∙ long, good, g)
+
+pub recovery : claim.Recovery
+recovery h i c a j p q r e g =
+    let t = accepts (h .memories i) (h .layout) (h .memories (suc i)) (h .in-bytes) (accepted-attests h i c a) in
+    let u = accepted-raises h i c a in
+    old-at h i j (omega arith) q (t .allowed .long) (t .good) r e
+    (old-stays-old h (suc i) j p (omega arith) (challenge (layoutOf (h .layout)) (h .memories j))
+    (rw (u .counted, ← a .request) g))
+
+-- a string that is greater than one below c is not at or below c
+above-old : (a c n : List ℕ) → length c ≡ length n → greater c n ≡ false → greater a c ≡ false → greater a n ≡ false
+above-old a c n e old g =
+    untrue (greater a n)
+    (λ f. clash (greater a c)
+    (elim (not-greater c n e old) [ inl u ↦ greater-trans a n c f u | inr u ↦ subst (λ (s : List ℕ). greater a s ≡ true) (sym u) f ]) g)
+
+pub refused-for-ever : claim.RefusedForEver
+refused-for-ever h i p e j q n r f g =
+    let l = layoutOf (h .layout) in
+    let x = h .memories i in
+    let o =
+    old-refused x (h .layout) (h .memories (suc i)) _
+    (subst (λ (k : Event). Happens (h .layout) k x (h .memories (suc i))) e (h .happens i p)) .0 refl in
+    let w = placed (h .layout) (h .in-bytes) (good-done (h .layout) (o .1)) in
+    let lc = length-challenge l w x (o .0) in
+    let ln = length-bytes (l .ctr .lo) (size (l .ctr)) x (omega (arith, o .0, w .counter, w .counter-in)) ∙ w .counter in
+    old-at h i j q n (o .0) (o .1) r f
+    (old-stays-old h i j q (omega arith) (challenge l (h .memories j))
+    (above-old (challenge l (h .memories j)) (challenge l x) (counter l x) (lc ∙ sym ln) (o .2) g))
+
+-- ---- what the station learns
+
+-- an accepted call stores nothing into KR
+event-key : (layout : List ℕ) → Bytes layout → (e : Event) (x y : List ℕ) → Happens layout e x y
+    → key (layoutOf layout) y ≡ key (layoutOf layout) x
+event-key layout h (attest Done) x y p = accepted-key x layout y h p
+event-key layout h (attest (Refused r)) x y p =
+    ap (λ (m : List ℕ). key (layoutOf layout) m) (attested-refused x layout y r p .1)
+event-key layout h (trace b r) x y p = trace-keeps x layout b (p .0 .0) y (p .0 .1) r (p .0 .2) (p .1) .key
+event-key layout h change x y p = p .key
+
+pub key-stays : claim.KeyStays
+key-stays h i p =
+    kept-since h (key (layoutOf (h .layout))) (event-key (h .layout) (h .in-bytes)) 0 i (omega arith) p
+
+-- what the station says to the reply of one accepted request
+tells : (h : History) (i : ℕ) (c expected : List ℕ) (v : Verdict) → Checked h i c expected v → Tells h i c expected v
+tells h i c expected v k =
+    let a = k .accepted in
+    let s = k .said in
+    let n = a .happened in
+    let e = key-stays h i (omega arith) in
+    rw (← e, a .request) (agrees (h .memories i) (h .layout) (h .memories (suc i)) (h .in-bytes) (accepted-attests h i c a)
+    .other expected v (k .some) (k .most)
+    (rw (e, ← a .request) s))
+
+pub last-tells : claim.LastTells
+last-tells h i j c d x y v w p q g =
+    (later-is-larger h i j c d (p .accepted) (q .accepted) .1 g, tells h j d y w q)
 
 -- ---- a history with two requests
 
@@ -290,11 +390,3 @@ both-served memory layout c d b long good lc ld fresh rises =
     four m (suc (suc zero)) h p q r s = r
     four m (suc (suc (suc zero))) h p q r s = s
     four m (suc (suc (suc (suc i)))) h p q r s = absurd (omega arith)
-
--- ---- a counter that falls back
-
-pub fallen-back : claim.FallenBack
-fallen-back layout x x′ y y′ r p q long ek ec et fresh =
-    let a = attested-done x layout x′ p .0 in
-    row-settled r (attestCheck y layout) (q .answered)
-    ∙ allowed-done y layout (record { long = long ∙ a .long; laid = a .laid; fresh = fresh; genuine = cc (a .genuine) })

@@ -1,5 +1,5 @@
--- The counter's history: what can happen to a board, and that no old request is ever answered again.
--- Definitions and claims; the proofs are in proofs/History.antt. Assumes nothing.
+-- The counter's history: what can happen to a board, and that no call of `attest` accepts an old request again.
+-- Definitions and claims; the proofs are in proofs/History.antt. What it rests on is in Limits.antt. Assumes nothing.
 use mathlib.Core.Path.{_≡_}
 use mathlib.Core.Logic.{_↔_, _⊎_}
 use mathlib.Core.Bool.{Bool, true, false, not, _&&_}
@@ -7,6 +7,8 @@ use mathlib.Core.List.{List}
 use Prim.Native.Nat.{ℕ, suc, _≤_, _<_}
 use lib.ListN.{length}
 use Rattle.notions.specs.Bytes.{Bytes}
+use Rattle.refusal.specs.Answers.{refusedAt}
+use Rattle.refusal.specs.Numbers.{challengeNotGreater}
 use Rattle.refusal.specs.declared.Answer.{Answer}
 use Rattle.refusal.specs.declared.Answer.the-variants.{Done}
 use Rattle.layout.specs.declared.Layout.{Layout}
@@ -23,8 +25,12 @@ use Rattle.traces.specs.Traces.{count, steps}
 use Rattle.monitor.specs.Runs.{begin}
 use Rattle.monitor.specs.Promises.{Steps, Traces}
 use Rattle.routine.specs.Strings.{greater, weight}
-use Rattle.board.specs.Memory.{bytesOf, key, counter, challenge, received}
+use Rattle.routine.specs.Routine.{reply}
+use Rattle.board.specs.Memory.{bytesOf, key, counter, attested, challenge, replied}
 use Rattle.board.specs.Promises.{Attests}
+use Rattle.station.specs.declared.Verdict.{Verdict}
+use Rattle.station.specs.declared.Verdict.the-variants.{Yes}
+use Rattle.station.specs.Promises.{ChecksReply}
 use Rattle.claims_monitor.specs.Traces.{remembers}
 
 -- ---- what can happen to a board
@@ -125,20 +131,59 @@ abbrev pub LaterIsLarger : Type 0
 LaterIsLarger =
     (h : History) (i j : ℕ) (c d : List ℕ) → Accepted h i c → Accepted h j d → (i < j) ↔ (greater d c ≡ true)
 
--- ---- what all this is worth
+-- a call of `attest` at event j that finds in the mailbox a challenge not greater than c is refused with 10
+abbrev pub RefusesAsOld : History → List ℕ → ℕ → Type 0
+RefusesAsOld h c j =
+    (r : Answer) → h .events j ≡ attest r → greater (challenge (layoutOf (h .layout)) (h .memories j)) c ≡ false
+    → r ≡ refusedAt challengeNotGreater 0
 
--- there are such histories: on every board, two requests for rising challenges, each put into the mailbox and accepted
+-- once c is accepted, so it is for ever: one request above all that were issued sets a board right whose counter fell
+-- back
+abbrev pub Recovery : Type 0
+Recovery =
+    (h : History) (i : ℕ) (c : List ℕ) → Accepted h i c → (j : ℕ) → i < j → j < h .n → RefusesAsOld h c j
+
+-- once a challenge is refused with 10, it is for ever
+abbrev pub RefusedForEver : Type 0
+RefusedForEver =
+    (h : History) (i : ℕ) → i < h .n → h .events i ≡ attest (refusedAt challengeNotGreater 0)
+    → (j : ℕ) → i ≤ j → j < h .n → RefusesAsOld h (challenge (layoutOf (h .layout)) (h .memories i)) j
+
+-- ---- what the station learns
+
+-- the key before event i is the key at the start
+abbrev pub keyAt : History → ℕ → List ℕ
+keyAt h i = key (layoutOf (h .layout)) (h .memories i)
+
+abbrev pub KeyStays : Type 0
+KeyStays = (h : History) (i : ℕ) → i ≤ h .n → keyAt h i ≡ keyAt h 0
+
+-- the request c was accepted at event i, and the station, which has the board's key and expects a region, said v to the
+-- reply that the call left
+pub record Checked (h : History) (i : ℕ) (c expected : List ℕ) (v : Verdict) : Type 0 where
+  pub accepted : Accepted h i c
+  pub some : 1 ≤ length expected
+  pub most : length expected ≤ 65536
+  pub said : ChecksReply (keyAt h 0) c (replied (layoutOf (h .layout)) (h .memories (suc i))) expected v
+
+-- v is yes exactly if the routine's reply for the expected region is that for AR as it stood before event i
+abbrev pub Tells : History → ℕ → List ℕ → List ℕ → Verdict → Type 0
+Tells h i c expected v =
+    (v ≡ Yes)
+    ↔ (reply (keyAt h 0) c expected ≡ reply (keyAt h 0) c (attested (layoutOf (h .layout)) (h .memories i)))
+
+-- of two checks the one with the larger challenge is the later, and tells of AR as it stood then: so whoever sorts by
+-- challenge may believe the last
+abbrev pub LastTells : Type 0
+LastTells =
+    (h : History) (i j : ℕ) (c d x y : List ℕ) (v w : Verdict) → Checked h i c x v → Checked h j d y w
+    → greater d c ≡ true → (i < j) × Tells h j d y w
+
+-- ---- there are such histories
+
+-- on every board, two requests for rising challenges, each put into the mailbox and accepted
 abbrev pub BothServed : Type 0
 BothServed =
     (memory layout c d : List ℕ) → Bytes layout → length memory ≡ memoryBytes → Good layout
     → length c ≡ 32 → length d ≡ 32 → greater c (counter (layoutOf layout) memory) ≡ true → greater d c ≡ true
     → (h : History) × (h .layout ≡ layout) × (h .memories 0 ≡ memory) × Accepted h 1 c × Accepted h 3 d
-
--- and CTR has to be kept: where it falls back below the challenge of a request that was accepted, that request is
--- accepted again
-abbrev pub FallenBack : Type 0
-FallenBack =
-    (layout x x′ y y′ : List ℕ) (r : Answer) → Attests x layout x′ Done → Attests y layout y′ r → length y ≡ length x
-    → (let l = layoutOf layout in
-    key l y ≡ key l x → challenge l y ≡ challenge l x → received l y ≡ received l x
-    → greater (challenge l y) (counter l y) ≡ true → r ≡ Done)

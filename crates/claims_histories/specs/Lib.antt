@@ -1,3 +1,4 @@
 pub mod History
+pub mod Limits
 pub mod Visit
 pub mod Script

@@ -73,15 +73,19 @@ module _ (memory layout memory′ : List ℕ) (b : Bytes layout) (p : Attests me
       elim o [ inl h ↦ omega (arith, q .0) | inr h ↦ omega (arith, q .1) ]) in
       call .served .kept a (simp (e, f))
 
-  -- the key
+  -- every byte outside MR and CTR
+  pub accepted-else : (a : ℕ) → within (l .mr) a ≡ false → within (l .ctr) a ≡ false → getD memory′ a 0 ≡ getD memory a 0
+  accepted-else a u v =
+      let m = call .lies .mail in
+      apart-kept a (elim (outside-ends (l .mr) a u) [ inl h ↦ inl (omega arith) | inr h ↦ inr (omega arith) ]) v
+
+  -- so the key
   pub accepted-key : key l memory′ ≡ key l memory
   unfolding layoutOf
   accepted-key =
-      let m = call .lies .mail in
       region-agrees (region layout KR) memory′ memory (call .served .long)
       (λ a w.
-      let o = outside-ends (l .mr) a (elsewhere (call .good) KR MR (omega arith) (omega arith) (λ q. omega arith) refl refl a w) in
-      apart-kept a (elim o [ inl h ↦ inl (omega arith) | inr h ↦ inr (omega arith) ])
+      accepted-else a (elsewhere (call .good) KR MR (omega arith) (omega arith) (λ q. omega arith) refl refl a w)
       (elsewhere (call .good) KR CTR (omega arith) (omega arith) (λ q. omega arith) refl refl a w))
 
   -- what stands before the reply in the mailbox

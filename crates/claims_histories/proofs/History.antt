@@ -6,7 +6,7 @@ use mathlib.Core.List.{List}
 use Prim.Native.Nat.{ℕ, zero, suc, _≤_, _<_}
 use native.Mathlib.Omega.{arith}
 use lib.Dec.{eqb, ltb}
-use lib.ListN.{length}
+use lib.ListN.{length, getD}
 use borrow.Author.Tests.{eqb-true, eqb-false, ltb-true, ltb-false}
 use Rattle.notions.specs.Bytes.{Bytes}
 use Rattle.refusal.specs.Answers.{refusedAt, afterCall}
@@ -29,7 +29,7 @@ use Rattle.traces.specs.Traces.{traceCheck, stepCheck}
 use Rattle.routine.specs.Strings.{greater}
 use Rattle.routine.specs.Routine.{token}
 use Rattle.routine.proofs.Order.{greater-irreflexive, greater-trans, not-greater, weight-greater}
-use Rattle.board.specs.Memory.{key, counter, challenge}
+use Rattle.board.specs.Memory.{key, counter, attested, challenge}
 use Rattle.board.specs.Attestation.{accepted}
 use Rattle.board.specs.Promises.{Attests}
 use Rattle.board.proofs.Stores.{bytes-read}
@@ -41,10 +41,10 @@ use Rattle.claims_histories.specs.History as claim
 use Rattle.claims_histories.specs.History.{Event, attest, trace, change, Keeps, storesCounter, Happens, History}
 use Rattle.claims_histories.specs.History.{Accepted, counterAt, Checked, Tells}
 use Rattle.conditions.proofs.Answers.{lent-either}
-use Rattle.claims_attestation.proofs.Accepts.{accepts, accepted-key}
+use Rattle.claims_attestation.proofs.Accepts.{accepts, accepted-key, accepted-else}
 use Rattle.claims_attestation.proofs.Demand2.{old-refused, agrees}
 use Rattle.claims_attestation.proofs.Posted.{request-long, request-is, request-code, request-key, request-counter}
-use Rattle.claims_attestation.proofs.Posted.{request-done}
+use Rattle.claims_attestation.proofs.Posted.{request-attested, request-else, request-done}
 use Rattle.claims_monitor.proofs.Traces.{length-kept, stays-through, rom, guarded}
 
 -- ---- a trace
@@ -312,16 +312,20 @@ last-tells h i j c d x y v w p q g =
 -- ---- a history with two requests
 
 -- a request for c in the mailbox, a change that keeps CR, KR and CTR: it is accepted
-record Exchange (layout memory c : List ℕ) : Type 0 where
-  request : List ℕ
-  after : List ℕ
-  keeps : Keeps (layoutOf layout) memory request
-  asks : c ≡ challenge (layoutOf layout) request
-  serves : Attests request layout after Done
-  counted : counter (layoutOf layout) after ≡ c
-  long : length after ≡ memoryBytes
+pub record Exchange (layout memory c : List ℕ) : Type 0 where
+  pub request : List ℕ
+  pub after : List ℕ
+  pub keeps : Keeps (layoutOf layout) memory request
+  pub region : attested (layoutOf layout) request ≡ attested (layoutOf layout) memory
+  pub asks : c ≡ challenge (layoutOf layout) request
+  pub serves : Attests request layout after Done
+  pub counted : counter (layoutOf layout) after ≡ c
+  pub long : length after ≡ memoryBytes
+  -- a byte outside MR and CTR
+  pub else : (a : ℕ) → within (layoutOf layout .mr) a ≡ false → within (layoutOf layout .ctr) a ≡ false
+      → getD after a 0 ≡ getD memory a 0
 
-exchange : (layout : List ℕ) → Bytes layout → Good layout → (memory c : List ℕ) → length memory ≡ memoryBytes
+pub exchange : (layout : List ℕ) → Bytes layout → Good layout → (memory c : List ℕ) → length memory ≡ memoryBytes
     → length c ≡ 32
     → greater c (counter (layoutOf layout) memory) ≡ true → Exchange layout memory c
 exchange layout b good memory c long lc fresh =
@@ -343,10 +347,14 @@ exchange layout b good memory c long lc fresh =
       request = m;
       after = accepted l m;
       keeps = keeps;
+      region = request-attested layout b good memory c t long lc refl;
       asks = sym is;
       serves = serves;
       counted = s .counted ∙ is;
       long = s .long ∙ keeps .long ∙ long;
+      else = λ a u v.
+          accepted-else m layout (accepted l m) b serves a u v
+          ∙ request-else layout b good memory c t long lc refl a u;
     }
 
 pub both-served : claim.BothServed

@@ -287,6 +287,10 @@ board-and-station memory layout memory′ made r b long good fresh makes came p 
 
 -- ---- a request in the mailbox
 
+-- the same of equal strings
+pub agrees-as : {k k′ c c′ r r′ g : List ℕ} → k ≡ k′ → c ≡ c′ → r ≡ r′ → Agrees k c r g → Agrees k′ c′ r′ g
+agrees-as e f h a = rw (← e, ← f, ← h) a
+
 pub request-served : claim.RequestServed
 request-served memory layout c memory′ made r b long good lc fresh makes p =
     let l = layoutOf layout in
@@ -302,5 +306,5 @@ request-served memory layout c memory′ made r b long good lc fresh makes p =
     let a = request-attested layout b good memory c (made .bytes) long lc t in (
       d,
       answers-so m layout memory′ b q .counted ∙ is,
-      rw (← is, ← k, ← a) (agrees m layout memory′ b q),
+      agrees-as k is a (agrees m layout memory′ b q),
     )

@@ -28,21 +28,22 @@ use Rattle.traces.specs.Traces.{count, steps}
 use Rattle.traces.specs.Traces.{traceCheck, stepCheck}
 use Rattle.routine.specs.Strings.{greater}
 use Rattle.routine.specs.Routine.{token}
+use Rattle.routine.proofs.Laws.{reply-is}
 use Rattle.routine.proofs.Order.{greater-irreflexive, greater-trans, not-greater, weight-greater}
-use Rattle.board.specs.Memory.{key, counter, attested, challenge}
-use Rattle.board.specs.Attestation.{accepted}
+use Rattle.board.specs.Memory.{key, counter, attested, challenge, replied}
+use Rattle.board.specs.Attestation.{due, accepted}
 use Rattle.board.specs.Promises.{Attests}
 use Rattle.board.proofs.Stores.{bytes-read}
-use Rattle.board.proofs.Laws.{length-bytes, region-agrees, length-challenge, attested-refused}
+use Rattle.board.proofs.Laws.{length-bytes, region-agrees, length-challenge, due-is, attested-refused}
 use Rattle.station.specs.declared.Verdict.{Verdict}
 use Rattle.claims_monitor.specs.Traces.{remembers, byteAt}
-use Rattle.claims_attestation.specs.Demand2.{posted}
+use Rattle.claims_attestation.specs.Demand2.{Agrees, posted}
 use Rattle.claims_histories.specs.History as claim
 use Rattle.claims_histories.specs.History.{Event, attest, trace, change, Keeps, storesCounter, Happens, History}
 use Rattle.claims_histories.specs.History.{Accepted, counterAt, Checked, Tells}
 use Rattle.conditions.proofs.Answers.{lent-either}
 use Rattle.claims_attestation.proofs.Accepts.{accepts, accepted-key, accepted-else}
-use Rattle.claims_attestation.proofs.Demand2.{old-refused, agrees}
+use Rattle.claims_attestation.proofs.Demand2.{old-refused, agrees, agrees-as}
 use Rattle.claims_attestation.proofs.Posted.{request-long, request-is, request-code, request-key, request-counter}
 use Rattle.claims_attestation.proofs.Posted.{request-attested, request-else, request-done}
 use Rattle.claims_monitor.proofs.Traces.{length-kept, stays-through, rom, guarded}
@@ -316,12 +317,16 @@ pub record Exchange (layout memory c : List ℕ) : Type 0 where
   pub request : List ℕ
   pub after : List ℕ
   pub keeps : Keeps (layoutOf layout) memory request
-  pub region : attested (layoutOf layout) request ≡ attested (layoutOf layout) memory
   pub asks : c ≡ challenge (layoutOf layout) request
   pub serves : Attests request layout after Done
   pub counted : counter (layoutOf layout) after ≡ c
   pub long : length after ≡ memoryBytes
-  -- a byte outside MR and CTR
+  pub replies : replied (layoutOf layout) after ≡ due (layoutOf layout) request
+  -- the station agrees, on AR as it was before the request came
+  pub told :
+      (let l = layoutOf layout in
+      Agrees (key l memory) c (attested l memory) (replied l after))
+  -- a byte outside MR and CTR stays
   pub else : (a : ℕ) → within (layoutOf layout .mr) a ≡ false → within (layoutOf layout .ctr) a ≡ false
       → getD after a 0 ≡ getD memory a 0
 
@@ -347,11 +352,14 @@ exchange layout b good memory c long lc fresh =
       request = m;
       after = accepted l m;
       keeps = keeps;
-      region = request-attested layout b good memory c t long lc refl;
       asks = sym is;
       serves = serves;
       counted = s .counted ∙ is;
       long = s .long ∙ keeps .long ∙ long;
+      replies = s .reply ∙ sym (due-is l m ∙ reply-is _ _ _);
+      told =
+          agrees-as (keeps .key) is (request-attested layout b good memory c t long lc refl)
+          (agrees m layout (accepted l m) b serves);
       else = λ a u v.
           accepted-else m layout (accepted l m) b serves a u v
           ∙ request-else layout b good memory c t long lc refl a u;

@@ -1,24 +1,38 @@
 -- The claims about what the counter's history rests on hold. Assumes nothing.
-use mathlib.Core.Path.{_≡_, refl, sym, ap, _∙_}
+use mathlib.Core.Path.{_≡_, refl, sym, ap, subst, _∙_}
 use mathlib.Core.Bool.{true, false}
 use mathlib.Core.List.{List}
-use Prim.Native.Nat.{ℕ, _+_}
+use Prim.Native.Nat.{ℕ, zero, suc, _+_, _<_}
 use native.Mathlib.Omega.{arith}
+use lib.ListN.{length}
+use Rattle.notions.specs.Bytes.{Bytes}
 use Rattle.notions.specs.First.{first}
 use Rattle.notions.proofs.Tests.{untrue}
 use Rattle.refusal.specs.Settled.{row-settled}
 use Rattle.refusal.specs.declared.Answer.the-variants.{Done}
 use Rattle.layout.specs.declared.Region.{Region}
-use Rattle.layout.specs.Regions.{within}
+use Rattle.layout.specs.Regions.{within, size}
 use Rattle.layout.specs.Layouts.{MR, CTR, region, layoutOf, layoutCheck}
 use Rattle.layout.specs.Good.{Good}
+use Rattle.layout.specs.Calls.{memoryBytes}
 use Rattle.layout.proofs.Laws.{good-done, within-ends, elsewhere}
-use Rattle.board.specs.Memory.{bytesAt, bytesOf, key, counter, challenge, received}
+use Rattle.traces.specs.Traces.{steps}
+use Rattle.monitor.specs.Runs.{begin, memoryAfter}
+use Rattle.routine.specs.Strings.{greater}
+use Rattle.routine.proofs.Order.{greater-trans}
+use Rattle.board.specs.Memory.{bytesAt, bytesOf, key, counter, attested, challenge, received, replied}
 use Rattle.board.specs.Attestation.{attestCheck, accepted}
 use Rattle.board.proofs.Laws.{allowed-done, attested-done, region-agrees}
+use Rattle.claims_monitor.specs.Traces.{causeAt}
 use Rattle.claims_attestation.proofs.Accepts.{accepts, accepted-key, accepted-challenge, accepted-received}
+use Rattle.claims_attestation.specs.Demand2.{Agrees}
+use Rattle.claims_attestation.proofs.Demand2.{agrees-as}
 use Rattle.claims_histories.specs.Limits as claim
-use Rattle.claims_histories.proofs.History.{exchange}
+use Rattle.claims_histories.specs.Limits.{cutTrace, OutOfOrder}
+use Rattle.claims_histories.specs.History.{Event, attest, trace, change, Keeps, Happens}
+use Rattle.claims_histories.proofs.History.{Exchange, exchange, trace-keeps}
+use Rattle.claims_histories.proofs.OutOfOrder.{cutTraced, happens, cut-replied, cut-because, changed, changed-keeps}
+use Rattle.claims_histories.proofs.OutOfOrder.{changed-region}
 
 -- ---- the counter is kept
 
@@ -87,3 +101,121 @@ page-moved =
                 omega (arith, q .0, p .1));
           };
     }
+
+-- ---- a visit runs to its end
+
+-- a request for c in the mailbox, and the visit that is cut
+record Cut (layout memory c : List ℕ) : Type 0 where
+  request : List ℕ
+  after : List ℕ
+  posts : Keeps (layoutOf layout) memory request
+  asks : challenge (layoutOf layout) request ≡ c
+  judged : Happens layout (trace (cutTrace (layoutOf layout) request) cutTraced) request after
+  because :
+      (let b = cutTrace (layoutOf layout) request in
+      causeAt (layoutOf layout) (steps b) (begin request) 33 ≡ 4)
+  keeps : Keeps (layoutOf layout) request after
+  answered :
+      (let l = layoutOf layout in
+      Agrees (key l memory) c (attested l memory) (replied l after))
+
+cut-visit : (layout memory c : List ℕ) → Bytes layout → Exchange layout memory c → Cut layout memory c
+cut-visit layout memory c b p =
+    let l = layoutOf layout in
+    let x = p .request in
+    let t = cutTrace l x in
+    let h = happens x layout (p .after) b (p .serves) in
+    record {
+      request = x;
+      after = memoryAfter l t x;
+      posts = p .keeps;
+      asks = sym (p .asks);
+      judged = h;
+      because = cut-because x layout (p .after) b (p .serves);
+      keeps = trace-keeps x layout t (h .0 .0) (memoryAfter l t x) (h .0 .1) cutTraced (h .0 .2) (h .1);
+      answered =
+          subst (Agrees (key l memory) c (attested l memory))
+          (p .replies ∙ sym (cut-replied x layout (p .after) b (p .serves))) (p .told);
+    }
+
+-- and AR altered behind it
+record Altered (layout memory altered : List ℕ) : Type 0 where
+  after : List ℕ
+  keeps : Keeps (layoutOf layout) memory after
+  region : attested (layoutOf layout) after ≡ altered
+
+alter : (layout memory altered : List ℕ) → Bytes layout → Good layout
+    → ((a : ℕ) → within (layoutOf layout .ar) a ≡ true → within (layoutOf layout .cr) a ≡ false)
+    → length memory ≡ memoryBytes → length altered ≡ size (layoutOf layout .ar) → Altered layout memory altered
+alter layout memory altered b good apart long fits = record {
+  after = changed layout good memory altered long fits;
+  keeps = changed-keeps layout good memory altered long fits apart;
+  region = changed-region layout good memory altered long fits b;
+}
+
+-- the history of these and of a request that is then served
+in-a-row : (layout memory c d altered : List ℕ) → Bytes layout → (p : Cut layout memory c)
+    → (a : Altered layout (p .after) altered) → Exchange layout (a .after) d → OutOfOrder layout memory c d altered
+in-a-row layout memory c d altered b p a q =
+    let l = layoutOf layout in
+    let t = cutTrace l (p .request) in
+    let m = memories memory (p .request) (p .after) (a .after) (q .request) (q .after) in
+    record {
+      history =
+          record {
+            layout = layout;
+            in-bytes = b;
+            n = 5;
+            events = events t;
+            memories = m;
+            happens = λ i e. five t m i e (p .posts) (p .judged) (a .keeps) (q .keeps) (q .serves);
+          };
+      laid = refl;
+      from = refl;
+      asks = p .asks;
+      cut = refl;
+      because = p .because;
+      answered = p .answered;
+      uncounted = p .keeps .counter ∙ p .posts .counter;
+      accepted = record { happened = omega arith; event = refl; request = q .asks };
+      told = agrees-as (a .keeps .key ∙ p .keeps .key ∙ p .posts .key) refl (a .region) (q .told);
+    }
+  where
+    events : List ℕ → ℕ → Event
+    events b zero = change
+    events b (suc zero) = trace b cutTraced
+    events b (suc (suc zero)) = change
+    events b (suc (suc (suc zero))) = change
+    events b (suc (suc (suc (suc i)))) = attest Done
+
+    memories : List ℕ → List ℕ → List ℕ → List ℕ → List ℕ → List ℕ → ℕ → List ℕ
+    memories a b c d e f zero = a
+    memories a b c d e f (suc zero) = b
+    memories a b c d e f (suc (suc zero)) = c
+    memories a b c d e f (suc (suc (suc zero))) = d
+    memories a b c d e f (suc (suc (suc (suc zero)))) = e
+    memories a b c d e f (suc (suc (suc (suc (suc i))))) = f
+
+    five : (b : List ℕ) (m : ℕ → List ℕ) (i : ℕ) → i < 5 → Happens layout change (m 0) (m 1)
+        → Happens layout (events b 1) (m 1) (m 2)
+        → Happens layout change (m 2) (m 3) → Happens layout change (m 3) (m 4)
+        → Happens layout (attest Done) (m 4) (m 5)
+        → Happens layout (events b i) (m i) (m (suc i))
+    five b m zero h p q r s t = p
+    five b m (suc zero) h p q r s t = q
+    five b m (suc (suc zero)) h p q r s t = r
+    five b m (suc (suc (suc zero))) h p q r s t = s
+    five b m (suc (suc (suc (suc zero)))) h p q r s t = t
+    five b m (suc (suc (suc (suc (suc i))))) h p q r s t = absurd (omega arith)
+
+pub checked-out-of-order : claim.CheckedOutOfOrder
+checked-out-of-order layout memory c d altered b good apart long lc ld la fresh larger =
+    let l = layoutOf layout in
+    let p =
+    cut-visit layout memory c b
+    (exchange layout b good memory c long lc (greater-trans c d (counter l memory) larger fresh)) in
+    let n : length (p .after) ≡ memoryBytes = p .keeps .long ∙ p .posts .long ∙ long in
+    let a = alter layout (p .after) altered b good apart n la in
+    let e : counter l (a .after) ≡ counter l memory = a .keeps .counter ∙ p .keeps .counter ∙ p .posts .counter in
+    in-a-row layout memory c d altered b p a
+    (exchange layout b good (a .after) d (a .keeps .long ∙ n) ld (ap (greater d) e ∙ fresh))

@@ -1,5 +1,5 @@
 -- The claims about attestation as a trace hold. Assumes nothing.
-use mathlib.Core.Path.{_≡_, refl, ap, _∙_}
+use mathlib.Core.Path.{_≡_, refl, sym, ap, _∙_}
 use mathlib.Core.Logic.{_≢_}
 use mathlib.Core.Bool.{Bool, true, false}
 use mathlib.Core.List.{List, [], _∷_}
@@ -21,6 +21,7 @@ use Rattle.layout.specs.Layouts.{layoutOf}
 use Rattle.layout.specs.Calls.{memoryBytes, callCheck}
 use Rattle.layout.proofs.Laws.{zero-outside}
 use Rattle.layout.proofs.Calls.{call-rest}
+use Rattle.layout.proofs.Placed.{Placed}
 use Rattle.steps.specs.declared.Step.{Step}
 use Rattle.rules.specs.declared.Monitor.{Monitor}
 use Rattle.steps.specs.Steps.{stepOf, flags, encode, Addressed}
@@ -43,17 +44,18 @@ use Rattle.board.proofs.Laws.{bytes-due}
 use Rattle.claims_monitor.specs.Traces.{remembers, causeAt, InParts}
 use Rattle.claims_monitor.specs.Marked.{at}
 use Rattle.claims_histories.specs.Script as claim
-use Rattle.claims_histories.specs.Visit.{Free, Plays, storeAt, storeByte}
+use Rattle.claims_histories.specs.Visit.{Free, Plays, storeByte, played}
 use Rattle.claims_histories.specs.Script.{encoded, scripted, script}
 use Rattle.monitor.proofs.Runs.{Alike, alike}
 use Rattle.claims_attestation.proofs.Accepts.{Accepts, accepts}
 use Rattle.claims_monitor.proofs.Runs.{in-parts}
 use Rattle.claims_monitor.proofs.Traces.{joined-before, release}
-use Rattle.claims_histories.proofs.Visit.{visit-passes, leaves-freely, visit-attests, plays-so}
+use Rattle.claims_histories.proofs.Visit.{visit-passes, leaves-freely, keeps-memory, store-small, exact-visit}
+use Rattle.claims_histories.proofs.Visit.{played-plays, played-none}
 
 -- ---- a trace's bytes
 
-length-encoded : (t : ℕ → Step) (n : ℕ) → length (encoded t n) ≡ stepSize * n
+pub length-encoded : (t : ℕ → Step) (n : ℕ) → length (encoded t n) ≡ stepSize * n
 unfolding encoded encode
 length-encoded t zero = refl
 length-encoded t (suc n) = omega (arith, length-append (encoded t n) (encode (t n)), length-encoded t n)
@@ -73,7 +75,7 @@ encoded-bytes t (suc n) i h =
 pub tells-steps : claim.TellsSteps
 tells-steps t n i h k = ap stepOf (encoded-bytes t n i h) ∙ tells-step (t i) k
 
-encoded-fits : (t : ℕ → Step) (n room : ℕ) → n ≤ mostSteps → answerSize * n ≤ room
+pub encoded-fits : (t : ℕ → Step) (n room : ℕ) → n ≤ mostSteps → answerSize * n ≤ room
     → traceCheck (encoded t n) room ≡ Done
 unfolding traceCheck
 encoded-fits t n room h r =
@@ -86,7 +88,7 @@ encoded-fits t n room h r =
 
 -- ---- addresses of 16 bits
 
-code-small : (b : List ℕ) → Bytes b → (layoutOf b .cr .lo < memoryBytes) × (layoutOf b .cr .hi < memoryBytes)
+pub code-small : (b : List ℕ) → Bytes b → (layoutOf b .cr .lo < memoryBytes) × (layoutOf b .cr .hi < memoryBytes)
 unfolding layoutOf
 code-small b h =
     let p = h 0 in
@@ -99,25 +101,43 @@ small-pick : (t : Bool) (a b n : ℕ) → (t ≡ true → a < n) → (t ≡ fals
 small-pick true a b n f g = f refl
 small-pick false a b n f g = g refl
 
+-- those of a visit that makes the 64 stores
+pub played-addressed : (b : List ℕ) → Bytes b → Placed (layoutOf b) → (memory : List ℕ) (i : ℕ) → i < 64
+    → Addressed (played (layoutOf b) memory i)
+played-addressed b h p memory i k =
+    let l = layoutOf b in
+    let g = store-small l p i k in
+    record {
+      pc =
+          small-pick (eqb i 63) (l .cr .hi) (l .cr .lo) memoryBytes (λ u. code-small b h .1) (λ u. code-small b h .0);
+      cpuaddress = g;
+      dmaaddress = g;
+    }
+
 -- ---- attestation as a trace
 
 -- steps without a cause do not count as resets
-none-reset : (l : Layout) (t : ℕ → Step) (x : State) (n : ℕ) → ((i : ℕ) → i < n → causeAt l t x i ≡ 0)
+pub none-reset : (l : Layout) (t : ℕ → Step) (x : State) (n : ℕ) → ((i : ℕ) → i < n → causeAt l t x i ≡ 0)
     → resetting l t x n ≡ 0
 unfolding resetting
 none-reset l t x zero f = refl
 none-reset l t x (suc n) f = simp (f n (omega arith), none-reset l t x n (λ i h. f i (omega arith)))
 
--- a step that writes nothing stores nothing
-keeps-memory : (l : Layout) (m : Monitor) (s : Step) (memory : List ℕ) → cause l m s ≡ 0 → s .dmaactive ≡ false
-    → s .cpuwrites ≡ false
-    → decidedMemory l m s memory ≡ memory
-unfolding written storing stored
-keeps-memory l m s memory e d w = simp (e, d, w)
-
 -- what stands after the first step, with PC 0
-abbrev released : List ℕ → State
+abbrev pub released : List ℕ → State
 released memory = record { monitor = record { held = false; lastpc = 0 }; memory = memory }
+
+-- a trace that begins with PC 0 and accesses nothing there lets the monitor go
+module _ (l : Layout) (t : ℕ → Step) (memory : List ℕ) (e : t 0 ≡ at 0) where
+  pub first-passes : causeAt l t (begin memory) 0 ≡ 0
+  unfolding before
+  first-passes = ap (cause l start) e ∙ release l (λ i. at 0) (begin memory) 0 refl refl refl refl refl
+
+  pub after-first : before l t (begin memory) 1 ≡ released memory
+  unfolding before next
+  after-first =
+      let p = ap (cause l start) (sym e) ∙ first-passes in
+      simp (e, keeps-memory l start (at 0) memory p refl refl) (simp p)
 
 module _ (memory layout memory′ : List ℕ) (h : Bytes layout) (a : Attests memory layout memory′ Done) where
   abbrev ly : Layout
@@ -132,46 +152,27 @@ module _ (memory layout memory′ : List ℕ) (h : Bytes layout) (a : Attests me
   call : Accepts memory layout memory′
   call = accepts memory layout memory′ h a
 
-  address : (i : ℕ) → i < 64 → storeAt ly i < memoryBytes
-  address i e =
-      small-pick (ltb i 32) (replyAt ly + i) (ly .ctr .lo + (i - 32)) memoryBytes
-      (λ t. omega (arith, ltb-true i 32 t, call .lies .mail-in))
-      (λ t. omega (arith, ltb-false i 32 t, call .lies .counter-in))
-
   addressed : (i : ℕ) → Addressed (all i)
   addressed zero = record { pc = omega arith; cpuaddress = omega arith; dmaaddress = omega arith }
   addressed (suc i) =
       cases (ltb i 64)
-      (λ t.
-      let g = address i (ltb-true i 64 t) in
-      simp t (record {
-        pc =
-            small-pick (eqb i 63) (ly .cr .hi) (ly .cr .lo) memoryBytes (λ u. code-small layout h .1)
-            (λ u. code-small layout h .0);
-        cpuaddress = g;
-        dmaaddress = g;
-      }))
+      (λ t. simp t (played-addressed layout h (call .lies) memory i (ltb-true i 64 t)))
       (λ t. simp t (record { pc = omega arith; cpuaddress = omega arith; dmaaddress = omega arith }))
-
-  released-first : causeAt ly all (begin memory) 0 ≡ 0
-  unfolding before
-  released-first = release ly all (begin memory) 0 refl refl refl refl refl
-
-  after-first : before ly all (begin memory) 1 ≡ released memory
-  unfolding before next
-  after-first = simp (keeps-memory ly start (at 0) memory released-first refl refl) (simp released-first)
 
   free-first : Free ly (released memory)
   free-first = record { unheld = refl; outside = zero-outside layout (call .allowed .laid) }
 
-  plays-rest : Plays ly memory rest
-  plays-rest = plays-so memory layout memory′ h a rest (λ i k. simp (lt-ltb i 64 k))
+  rest-played : (i : ℕ) → i < 64 → rest i ≡ played ly memory i
+  rest-played i k = simp (lt-ltb i 64 k)
+
+  plays-rest : Plays ly memory rest 64
+  plays-rest = played-plays memory layout memory′ h a rest rest-played
 
   -- no step of the rest resets
   rest-passes : (i : ℕ) → i < 65 → causeAt ly rest (released memory) i ≡ 0
   rest-passes i k =
       cases (ltb i 64)
-      (λ e. visit-passes ly rest (released memory) 64 free-first (plays-rest .visit) i (ltb-true i 64 e))
+      (λ e. visit-passes ly rest (released memory) 64 free-first (plays-rest .visit .begins) i (ltb-true i 64 e))
       (λ e.
       let q : i ≡ 64 = omega (arith, ltb-false i 64 e) in
       rw q (leaves-freely ly rest (released memory) 64 free-first (plays-rest .visit)
@@ -182,7 +183,8 @@ module _ (memory layout memory′ : List ℕ) (h : Bytes layout) (a : Attests me
   rest-leaves =
       keeps-memory ly (remembers ly rest (released memory) 64) (at 0) (before ly rest (released memory) 64 .memory)
       (rest-passes 64 (omega arith)) refl refl
-      ∙ visit-attests layout memory′ rest (released memory) h free-first a plays-rest
+      ∙ exact-visit layout memory′ rest (released memory) 64 h free-first a plays-rest
+      (played-none memory layout memory′ h a rest rest-played)
 
   in-two : InParts ly all all rest (begin memory) 1 65
   in-two =
@@ -191,14 +193,14 @@ module _ (memory layout memory′ : List ℕ) (h : Bytes layout) (a : Attests me
 
   all-left : before ly all (begin memory) 66 .memory ≡ memory′
   all-left =
-      ap (λ (x : State). x .memory) (in-two .left ∙ ap (λ (x : State). before ly rest x 65) after-first) ∙ rest-leaves
+      ap (λ (x : State). x .memory) (in-two .left ∙ ap (λ (x : State). before ly rest x 65) (after-first ly all memory refl)) ∙ rest-leaves
 
   all-counted : resetting ly all (begin memory) 66 ≡ 0
   all-counted =
       in-two .counted
       ∙ simp (
-        none-reset ly all (begin memory) 1 (λ i k. let q : i ≡ 0 = omega arith in rw q released-first),
-        after-first,
+        none-reset ly all (begin memory) 1 (λ i k. let q : i ≡ 0 = omega arith in rw q (first-passes ly all memory refl)),
+        after-first ly all memory refl,
         none-reset ly rest (released memory) 65 rest-passes,
       )
 

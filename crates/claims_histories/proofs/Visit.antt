@@ -1,32 +1,35 @@
 -- The claims about visits to the attestation code hold. Assumes nothing.
 use mathlib.Core.Path.{_≡_, refl, sym, ap, _∙_}
 use mathlib.Core.Logic.{_⊎_, inl, inr}
-use mathlib.Core.Bool.{true, false, not, _||_, and-false, or-true}
+use mathlib.Core.Bool.{Bool, true, false, not, _&&_, _||_, and-false, or-true}
 use mathlib.Core.List.{List}
 use Prim.Native.Nat.{ℕ, zero, suc, _+_, _-_, _≤_, _<_}
 use native.Mathlib.Nat.{not-suc-le-zero}
 use native.Mathlib.Omega.{arith}
 use lib.Dec.{eqb, ltb}
-use lib.ListN.{length, getD, take, set}
-use lib.Seq.{sets, take-all, getD-set-same}
-use borrow.Author.Tests.{eq-eqb, ltb-true, ltb-false, lt-ltb, le-ltb}
+use lib.ListN.{length, getD, take, set, length-set}
+use lib.Seq.{sets, take-all, getD-set-same, getD-set-other}
+use borrow.Author.Tests.{eqb-true, eqb-false, eq-eqb, ltb-true, ltb-false, lt-ltb, le-ltb}
 use Rattle.notions.specs.Bytes.{Bytes}
 use Rattle.refusal.specs.declared.Answer.the-variants.{Done}
-use Rattle.notions.proofs.Tests.{cases, clash, neither}
+use Rattle.notions.proofs.Tests.{cases, clash, neither, both}
 use Rattle.layout.specs.declared.Layout.{Layout}
-use Rattle.layout.specs.Regions.{within}
-use Rattle.layout.specs.Layouts.{CR, KR, MR, CTR, region, layoutOf}
+use Rattle.layout.specs.Regions.{within, outside}
+use Rattle.layout.specs.Layouts.{CR, KR, XS, MR, CTR, region, layoutOf}
+use Rattle.layout.specs.Calls.{memoryBytes}
 use Rattle.layout.specs.Good.{Good}
 use Rattle.layout.proofs.Laws.{ends-within, elsewhere}
 use Rattle.layout.proofs.Placed.{Placed}
 use Rattle.steps.specs.declared.Step.{Step}
 use Rattle.rules.specs.declared.Monitor.{Monitor}
-use Rattle.rules.specs.Rules.{writable, rule15, cause}
+use Rattle.rules.specs.Rules.{cpuWritesIn, writable, rule15, cause}
 use Rattle.monitor.specs.Decisions.{next, decidedMemory}
 use Rattle.rules.proofs.Laws.{no-more, nor, unbroken-passes}
 use Rattle.rules.proofs.None.{visit-lowest}
 use Rattle.effects.specs.Effects.{stored, storing, written}
+use Rattle.effects.proofs.Laws.{written-byte}
 use Rattle.monitor.specs.Runs.{State, before}
+use Rattle.monitor.proofs.Laws.{length-before}
 use Rattle.board.specs.Memory.{challenge, replyAt}
 use Rattle.board.specs.Attestation.{due, accepted}
 use Rattle.board.specs.Promises.{Attests}
@@ -34,7 +37,8 @@ use Rattle.board.proofs.Stores.{sets-more}
 use Rattle.board.proofs.Laws.{length-due, length-challenge}
 use Rattle.claims_monitor.specs.Traces.{crOrKr, remembers, causeAt}
 use Rattle.claims_histories.specs.Visit as claim
-use Rattle.claims_histories.specs.Visit.{Inside, Free, Plays, storeAt, storeByte, writing, played}
+use Rattle.claims_histories.specs.Visit.{Inside, Begins, Free, storeAt, storeByte, cutAfter}
+use Rattle.claims_histories.specs.Visit.{storesOut, made, Makes, SameOutside, Plays, writing, played}
 use Rattle.claims_attestation.proofs.Accepts.{Accepts, accepts}
 
 -- ---- steps that pass
@@ -72,11 +76,11 @@ module _ (l : Layout) (m : Monitor) (s : Step) (free : m .held ≡ false) where
 
 -- after a step that passes, the monitor is not held and remembers its PC
 module _ (l : Layout) (t : ℕ → Step) (x : State) (i : ℕ) (e : causeAt l t x i ≡ 0) where
-  unheld-after : remembers l t x (suc i) .held ≡ false
+  pub unheld-after : remembers l t x (suc i) .held ≡ false
   unfolding before next
   unheld-after = simp e
 
-  last-after : remembers l t x (suc i) .lastpc ≡ t i .pc
+  pub last-after : remembers l t x (suc i) .lastpc ≡ t i .pc
   unfolding before next
   last-after = refl
 
@@ -92,7 +96,7 @@ visit-passes l t x n f v (suc i) h =
 pub leaves-freely : claim.LeavesFreely
 leaves-freely l t x zero f v o r w d = absurd (not-suc-le-zero (v .some))
 leaves-freely l t x (suc n) f v o r w d =
-    let e = visit-passes l t x (suc n) f v n (omega arith) in
+    let e = visit-passes l t x (suc n) f (v .begins) n (omega arith) in
     let q : n ≡ suc n - 1 = omega arith in
     outside-passes l (remembers l t x (suc n)) (t (suc n)) (unheld-after l t x n e)
     (last-after l t x n e ∙ ap (λ (k : ℕ). t k .pc) q ∙ v .ends) o r w d
@@ -107,6 +111,13 @@ unfolding written storing stored
 step-stores l m s memory e d w o =
     let p = neither (within (l .cr) (s .cpuaddress)) (within (l .kr) (s .cpuaddress)) o in
     simp (e, d, w, p .0, p .1)
+
+-- one that writes nothing stores nothing
+pub keeps-memory : (l : Layout) (m : Monitor) (s : Step) (memory : List ℕ) → cause l m s ≡ 0 → s .dmaactive ≡ false
+    → s .cpuwrites ≡ false
+    → decidedMemory l m s memory ≡ memory
+unfolding written storing stored
+keeps-memory l m s memory e d w = simp (e, d, w)
 
 -- an address of MR or CTR
 abbrev mrOrCtr : Layout → ℕ → Type 0
@@ -127,6 +138,11 @@ off-rom b g a (inr e) =
     elsewhere g CTR KR (omega arith) (omega arith) (λ q. omega arith) refl refl a e in
     simp (c, k)
 
+off-scratch : (b : List ℕ) → Good b → (a : ℕ) → mrOrCtr (layoutOf b) a → within (layoutOf b .xs) a ≡ false
+unfolding layoutOf
+off-scratch b g a (inl e) = elsewhere g MR XS (omega arith) (omega arith) (λ q. omega arith) refl refl a e
+off-scratch b g a (inr e) = elsewhere g CTR XS (omega arith) (omega arith) (λ q. omega arith) refl refl a e
+
 store-in : (l : Layout) → Placed l → (i : ℕ) → i < 64 → mrOrCtr l (storeAt l i)
 store-in l p i h =
     cases (ltb i 32)
@@ -137,8 +153,122 @@ store-in l p i h =
     let q = ltb-false i 32 e in
     inr (simp e (ends-within (l .ctr) (l .ctr .lo + (i - 32)) (omega arith) (omega (arith, p .counter)))))
 
-module _ (layout memory′ : List ℕ) (t : ℕ → Step) (x : State) (h : Bytes layout) (free : Free (layoutOf layout) x)
-    (a : Attests (x .memory) layout memory′ Done) (plays : Plays (layoutOf layout) (x .memory) t) where
+pub store-small : (l : Layout) → Placed l → (i : ℕ) → i < 64 → storeAt l i < memoryBytes
+store-small l p i h =
+    cases (ltb i 32)
+    (λ e. let q = ltb-true i 32 e in simp e (omega (arith, p .mail-in)))
+    (λ e. let q = ltb-false i 32 e in simp e (omega (arith, p .counter-in)))
+
+-- ---- the stores one after another
+
+module _ (l : Layout) (memory : List ℕ) where
+  cut-none : cutAfter l memory 0 ≡ memory
+  unfolding cutAfter
+  cut-none = refl
+
+  cut-more : (k : ℕ) → cutAfter l memory (suc k) ≡ set (cutAfter l memory k) (storeAt l k) (storeByte l memory k)
+  unfolding cutAfter
+  cut-more k = refl
+
+  reply-stored : (i : ℕ) → i ≤ 32 → cutAfter l memory i ≡ sets memory (replyAt l) (take i (due l memory))
+  reply-stored zero k = cut-none
+  reply-stored (suc i) k =
+      cut-more i
+      ∙ simp (reply-stored i (omega arith), lt-ltb i 32 k)
+      (sym (sets-more memory (replyAt l) (due l memory) i (omega (arith, length-due l memory))))
+
+  abbrev pub afterReply : List ℕ
+  afterReply = sets memory (replyAt l) (due l memory)
+
+  pub all-replied : cutAfter l memory 32 ≡ afterReply
+  all-replied =
+      reply-stored 32 (omega arith)
+      ∙ ap (sets memory (replyAt l)) (take-all 32 (due l memory) (omega (arith, length-due l memory)))
+
+  module _ (c : length (challenge l memory) ≡ 32) where
+    counter-stored : (j : ℕ) → j ≤ 32
+        → cutAfter l memory (32 + j) ≡ sets afterReply (l .ctr .lo) (take j (challenge l memory))
+    counter-stored zero k = all-replied
+    counter-stored (suc j) k =
+        let q : 32 + suc j ≡ suc (32 + j) = omega arith in
+        let d : 32 + j - 32 ≡ j = omega arith in
+        rw q (cut-more (32 + j)
+        ∙ simp (counter-stored j (omega arith), le-ltb (32 + j) 32 (omega arith), d)
+        (sym (sets-more afterReply (l .ctr .lo) (challenge l memory) j (omega arith))))
+
+    all-stored : cutAfter l memory 64 ≡ accepted l memory
+    unfolding accepted
+    all-stored =
+        counter-stored 32 (omega arith)
+        ∙ ap (sets afterReply (l .ctr .lo)) (take-all 32 (challenge l memory) (omega arith))
+
+pub all-stores : claim.AllStores
+all-stores memory layout memory′ h a =
+    let w = accepts memory layout memory′ h a in
+    all-stored (layoutOf layout) memory (length-challenge (layoutOf layout) (w .lies) memory (w .allowed .long))
+    ∙ sym (w .left)
+
+-- ---- how many are made
+
+module _ (l : Layout) (t : ℕ → Step) where
+  pub made-none : made l t 0 ≡ 0
+  unfolding made
+  made-none = refl
+
+  pub made-more : (n : ℕ) → storesOut l (t n) ≡ true → made l t (suc n) ≡ suc (made l t n)
+  unfolding made
+  made-more n e = simp e (omega arith)
+
+  pub made-same : (n : ℕ) → storesOut l (t n) ≡ false → made l t (suc n) ≡ made l t n
+  unfolding made
+  made-same n e = simp e (omega arith)
+
+  -- where each of the first n is a store outside XS
+  pub made-each : (n : ℕ) → ((i : ℕ) → i < n → storesOut l (t i) ≡ true) → made l t n ≡ n
+  made-each zero f = made-none
+  made-each (suc n) f = made-more n (f n (omega arith)) ∙ ap suc (made-each n (λ i k. f i (omega arith)))
+
+-- ---- the memory on the way
+
+-- a step that stores nothing outside XS, the DMA idle, leaves every byte there
+step-aside : (l : Layout) (m : Monitor) (s : Step) (memory : List ℕ) (a : ℕ) → s .dmaactive ≡ false
+    → storesOut l s ≡ false → outside (l .xs) a ≡ true → getD (decidedMemory l m s memory) a 0 ≡ getD memory a 0
+step-aside l m s memory a d o e =
+    elim (written-byte l (cause l m s) s memory a) [
+      | inl stays ↦ stays
+      | inr (inl c) ↦
+          let w = both (s .cpuwrites) _ (both (s .cpuwrites && outside (l .cr) (s .cpuaddress)) _ (c .lands) .0) .0 in
+          clash (storesOut l s) (simp (w, c .address, e)) o
+      | inr (inr c) ↦
+          let on = s .dmaactive && s .dmawrites in
+          let w = both on _ (both (on && outside (l .cr) (s .dmaaddress)) _ (c .lands) .0) .0 in
+          clash (s .dmaactive) (both (s .dmaactive) (s .dmawrites) w .0) d
+    ]
+
+-- the same byte put at the same place of two such memories
+set-same : (l : Layout) (x y : List ℕ) → SameOutside l x y → (a v : ℕ) → a < length x
+    → SameOutside l (set x a v) (set y a v)
+set-same l x y g a v h = record {
+  long = simp length-set (g .long);
+  same = λ k o.
+      cases (eqb k a)
+      (λ e.
+      let q = eqb-true k a e in
+      let n = g .long in
+      rw q (getD-set-same x a v 0 h ∙ sym (getD-set-same y a v 0 (omega arith))))
+      (λ e.
+      let q = eqb-false k a e in
+      getD-set-other x a k v 0 q ∙ g .same k o ∙ sym (getD-set-other y a k v 0 q));
+}
+
+writes-nothing : (w p : Bool) → (w && not p) ≡ false → (w && p) ≡ false → w ≡ false
+writes-nothing false p e f = refl
+writes-nothing true true e f = f
+writes-nothing true false e f = e
+
+module _ (layout memory′ : List ℕ) (t : ℕ → Step) (x : State) (n : ℕ) (h : Bytes layout)
+    (free : Free (layoutOf layout) x) (a : Attests (x .memory) layout memory′ Done)
+    (makes : Makes (layoutOf layout) (x .memory) t n) where
   abbrev l : Layout
   l = layoutOf layout
 
@@ -148,57 +278,83 @@ module _ (layout memory′ : List ℕ) (t : ℕ → Step) (x : State) (h : Bytes
   call : Accepts memory layout memory′
   call = accepts memory layout memory′ h a
 
-  length-is : length (challenge l memory) ≡ 32
-  length-is = length-challenge l (call .lies) memory (call .allowed .long)
-
-  -- step i makes its store
-  each-stores : (i : ℕ) → i < 64
-      → before l t x (suc i) .memory ≡ set (before l t x i .memory) (storeAt l i) (storeByte l memory i)
+  -- a store outside XS is made
+  stores-next : (i : ℕ) → i < n → storesOut l (t i) ≡ true
+      → before l t x (suc i) .memory
+      ≡ set (before l t x i .memory) (storeAt l (made l t i)) (storeByte l memory (made l t i))
   unfolding before
-  each-stores i k =
+  stores-next i k o =
+      let q = makes .next i k o in
+      let at = storeAt l (made l t i) in
       step-stores l (remembers l t x i) (t i) (before l t x i .memory)
-      (visit-passes l t x 64 free (plays .visit) i k) (plays .visit .each i k .idle) (plays .writes i k)
-      (ap (crOrKr l) (plays .address i k) ∙ off-rom layout (call .good) (storeAt l i) (store-in l (call .lies) i k))
-      ∙ ap (λ (b : ℕ). set (before l t x i .memory) b (t i .cpudata)) (plays .address i k)
-      ∙ ap (set (before l t x i .memory) (storeAt l i)) (plays .byte i k)
+      (visit-passes l t x n free (makes .begins) i k) (makes .begins .each i k .idle)
+      (both (t i .cpuwrites) (outside (l .xs) (t i .cpuaddress)) o .0)
+      (ap (crOrKr l) (q .address) ∙ off-rom layout (call .good) at (store-in l (call .lies) (made l t i) (q .more)))
+      ∙ ap (λ (b : ℕ). set (before l t x i .memory) b (t i .cpudata)) (q .address)
+      ∙ ap (set (before l t x i .memory) at) (q .byte)
 
-  reply-stored : (i : ℕ) → i ≤ 32 → before l t x i .memory ≡ sets memory (replyAt l) (take i (due l memory))
+  starts : before l t x 0 .memory ≡ cutAfter l memory (made l t 0)
   unfolding before
-  reply-stored zero k = refl
-  reply-stored (suc i) k =
-      each-stores i (omega arith)
-      ∙ simp (reply-stored i (omega arith), lt-ltb i 32 k)
-      (sym (sets-more memory (replyAt l) (due l memory) i (omega (arith, length-due l memory))))
+  starts = sym (ap (cutAfter l memory) (made-none l t) ∙ cut-none l memory)
 
-  abbrev afterReply : List ℕ
-  afterReply = sets memory (replyAt l) (due l memory)
+  aside : (i : ℕ) → i < n → storesOut l (t i) ≡ false → (b : ℕ) → outside (l .xs) b ≡ true
+      → getD (before l t x (suc i) .memory) b 0 ≡ getD (before l t x i .memory) b 0
+  unfolding before
+  aside i k o b e =
+      step-aside l (remembers l t x i) (t i) (before l t x i .memory) b (makes .begins .each i k .idle) o e
 
-  counter-stored : (j : ℕ) → j ≤ 32
-      → before l t x (32 + j) .memory ≡ sets afterReply (l .ctr .lo) (take j (challenge l memory))
-  counter-stored zero k =
-      reply-stored 32 (omega arith)
-      ∙ ap (sets memory (replyAt l)) (take-all 32 (due l memory) (omega (arith, length-due l memory)))
-  counter-stored (suc j) k =
-      let q : 32 + suc j ≡ suc (32 + j) = omega arith in
-      let d : 32 + j - 32 ≡ j = omega arith in
-      rw q (each-stores (32 + j) (omega arith)
-      ∙ simp (counter-stored j (omega arith), le-ltb (32 + j) 32 (omega arith), d)
-      (sym (sets-more afterReply (l .ctr .lo) (challenge l memory) j (omega (arith, length-is)))))
+  so-far : (i : ℕ) → i ≤ n → SameOutside l (before l t x i .memory) (cutAfter l memory (made l t i))
+  so-far zero k = rw starts (record { long = refl; same = λ b e. refl })
+  so-far (suc i) k =
+      let g = so-far i (omega arith) in
+      let z = length-before l t x i in
+      cases (storesOut l (t i))
+      (λ o.
+      let small = store-small l (call .lies) (made l t i) (makes .next i k o .more) in
+      rw (stores-next i k o, made-more l t i o, cut-more l memory (made l t i))
+      (set-same l _ _ g (storeAt l (made l t i)) (storeByte l memory (made l t i))
+      (omega (arith, call .allowed .long))))
+      (λ o. rw (made-same l t i o) (record {
+        long = length-before l t x (suc i) ∙ sym z ∙ g .long;
+        same = λ b e. aside i k o b e ∙ g .same b e;
+      }))
 
-  attests : before l t x 64 .memory ≡ memory′
-  unfolding accepted
-  attests =
-      counter-stored 32 (omega arith)
-      ∙ ap (sets afterReply (l .ctr .lo)) (take-all 32 (challenge l memory) (omega (arith, length-is)))
-      ∙ sym (call .left)
+  module _ (none : (i : ℕ) → i < n → cpuWritesIn (l .xs) (t i) ≡ false) where
+    nothing : (i : ℕ) → i < n → storesOut l (t i) ≡ false → before l t x (suc i) .memory ≡ before l t x i .memory
+    unfolding before
+    nothing i k o =
+        keeps-memory l (remembers l t x i) (t i) (before l t x i .memory)
+        (visit-passes l t x n free (makes .begins) i k) (makes .begins .each i k .idle)
+        (writes-nothing (t i .cpuwrites) (within (l .xs) (t i .cpuaddress)) o (none i k))
+
+    exactly : (i : ℕ) → i ≤ n → before l t x i .memory ≡ cutAfter l memory (made l t i)
+    exactly zero k = starts
+    exactly (suc i) k =
+        let g = exactly i (omega arith) in
+        cases (storesOut l (t i))
+        (λ o. rw (stores-next i k o, made-more l t i o, cut-more l memory (made l t i), g) refl)
+        (λ o. rw (nothing i k o, made-same l t i o) g)
+
+pub cut-visit : claim.CutVisit
+cut-visit layout memory′ t x n i h free a makes k = so-far layout memory′ t x n h free a makes i k
 
 pub visit-attests : claim.VisitAttests
-visit-attests = attests
+visit-attests layout memory′ t x n h free a plays =
+    let l = layoutOf layout in
+    let e : cutAfter l (x .memory) (made l t n) ≡ memory′ =
+    ap (cutAfter l (x .memory)) (plays .all) ∙ all-stores (x .memory) layout memory′ h a in
+    rw e at (so-far layout memory′ t x n h free a (plays .makes) n (omega arith))
+
+pub exact-visit : claim.ExactVisit
+exact-visit layout memory′ t x n h free a plays none =
+    exactly layout memory′ t x n h free a (plays .makes) none n (omega arith)
+    ∙ ap (cutAfter (layoutOf layout) (x .memory)) (plays .all)
+    ∙ all-stores (x .memory) layout memory′ h a
 
 -- ---- there is such a visit
 
 module _ (b : List ℕ) (g : Good b) where
-  code-ends : (within (layoutOf b .cr) (layoutOf b .cr .lo) ≡ true)
+  pub code-ends : (within (layoutOf b .cr) (layoutOf b .cr .lo) ≡ true)
       × (within (layoutOf b .cr) (layoutOf b .cr .hi) ≡ true)
   unfolding layoutOf
   code-ends =
@@ -212,34 +368,70 @@ allows l a (inl e) = simp (e, or-true)
 allows l a (inr e) = simp (e, or-true)
 
 -- steps that are those of `played`
-pub plays-so : (memory layout memory′ : List ℕ) → Bytes layout → Attests memory layout memory′ Done → (t : ℕ → Step)
-    → ((i : ℕ) → i < 64 → t i ≡ played (layoutOf layout) memory i) → Plays (layoutOf layout) memory t
-plays-so memory layout memory′ h a t f =
-    let l = layoutOf layout in
-    let w = accepts memory layout memory′ h a in
-    let c = code-ends layout (w .good) in
-    record {
-      visit =
-          record {
-            some = omega arith;
-            enters = ap (λ (s : Step). s .pc) (f 0 (omega arith));
-            each = λ i k.
-                rw (f i k) (record {
-                  pc = cases (eqb i 63) (λ e. simp e (c .1)) (λ e. simp e (c .0));
-                  calm = refl;
-                  idle = refl;
-                  writes = λ e. allows l (storeAt l i) (store-in l (w .lies) i k);
-                });
-            ends = ap (λ (s : Step). s .pc) (f 63 (omega arith));
-          };
-      writes = λ i k. ap (λ (s : Step). s .cpuwrites) (f i k);
-      address = λ i k. ap (λ (s : Step). s .cpuaddress) (f i k);
-      byte = λ i k. ap (λ (s : Step). s .cpudata) (f i k);
-    }
+module _ (memory layout memory′ : List ℕ) (h : Bytes layout) (a : Attests memory layout memory′ Done) (t : ℕ → Step)
+    (f : (i : ℕ) → i < 64 → t i ≡ played (layoutOf layout) memory i) where
+  abbrev ly : Layout
+  ly = layoutOf layout
+
+  accepting : Accepts memory layout memory′
+  accepting = accepts memory layout memory′ h a
+
+  place : (i : ℕ) → i < 64 → mrOrCtr ly (storeAt ly i)
+  place i k = store-in ly (accepting .lies) i k
+
+  played-out : (i : ℕ) → i < 64 → storesOut ly (t i) ≡ true
+  played-out i k = rw (f i k) (simp (off-scratch layout (accepting .good) (storeAt ly i) (place i k)))
+
+  pub played-made : (n : ℕ) → n ≤ 64 → made ly t n ≡ n
+  played-made n e = made-each ly t n (λ i k. played-out i (omega arith))
+
+  played-inside : (i : ℕ) → i < 64 → Inside ly (t i)
+  played-inside i k =
+      let c = code-ends layout (accepting .good) in
+      rw (f i k) (record {
+        pc = cases (eqb i 63) (λ e. simp e (c .1)) (λ e. simp e (c .0));
+        calm = refl;
+        idle = refl;
+        writes = λ e. allows ly (storeAt ly i) (place i k);
+      })
+
+  played-begins : (n : ℕ) → n ≤ 64 → Begins ly t n
+  played-begins n e = record {
+    enters = ap (λ (s : Step). s .pc) (f 0 (omega arith));
+    each = λ i k. played-inside i (omega arith);
+  }
+
+  pub played-makes : (n : ℕ) → n ≤ 64 → Makes ly memory t n
+  played-makes n e = record {
+    begins = played-begins n e;
+    next = λ i k o.
+        let g : i < 64 = omega arith in
+        let q = played-made i (omega arith) in
+        record {
+          more = omega arith;
+          address = ap (λ (s : Step). s .cpuaddress) (f i g) ∙ ap (storeAt ly) (sym q);
+          byte = ap (λ (s : Step). s .cpudata) (f i g) ∙ ap (storeByte ly memory) (sym q);
+        };
+  }
+
+  pub played-plays : Plays ly memory t 64
+  played-plays = record {
+    visit = record {
+      some = omega arith;
+      begins = played-begins 64 (omega arith);
+      ends = ap (λ (s : Step). s .pc) (f 63 (omega arith));
+    };
+    makes = played-makes 64 (omega arith);
+    all = played-made 64 (omega arith);
+  }
+
+  -- they store nothing into XS
+  pub played-none : (i : ℕ) → i < 64 → cpuWritesIn (ly .xs) (t i) ≡ false
+  played-none i k = rw (f i k) (simp (off-scratch layout (accepting .good) (storeAt ly i) (place i k)))
 
 pub can-be-played : claim.CanBePlayed
 can-be-played memory layout memory′ h a =
-    plays-so memory layout memory′ h a (played (layoutOf layout) memory) (λ i k. refl)
+    played-plays memory layout memory′ h a (played (layoutOf layout) memory) (λ i k. refl)
 
 -- ---- the attestation code's stores into CTR
 

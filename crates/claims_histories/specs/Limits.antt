@@ -1,23 +1,33 @@
 -- What the counter's history rests on: where one of its conditions fails, an old request is accepted again, or a check
 -- stands in the wrong order. Definitions and claims; the proofs are in proofs/Limits.antt. Assumes nothing.
 use mathlib.Core.Path.{_≡_}
-use mathlib.Core.Logic.{_↔_}
 use mathlib.Core.Bool.{true, false}
 use mathlib.Core.List.{List, [], _∷_, _++_}
-use Prim.Native.Nat.{ℕ}
+use Prim.Native.Nat.{ℕ, zero, suc}
+use lib.Dec.{ltb}
 use lib.ListN.{length, take, drop}
 use Rattle.notions.specs.Bytes.{Bytes}
+use Rattle.notions.specs.Choice.{pick}
 use Rattle.refusal.specs.declared.Answer.{Answer}
 use Rattle.refusal.specs.declared.Answer.the-variants.{Done}
 use Rattle.layout.specs.declared.Layout.{Layout}
-use Rattle.layout.specs.Regions.{within}
+use Rattle.layout.specs.Regions.{within, size}
 use Rattle.layout.specs.Layouts.{layoutOf, layoutCheck}
 use Rattle.layout.specs.Calls.{memoryBytes}
 use Rattle.layout.specs.Good.{Good}
+use Rattle.steps.specs.declared.Step.{Step}
+use Rattle.traces.specs.Traces.{steps}
+use Rattle.monitor.specs.declared.Traced.the-variants as traced
+use Rattle.monitor.specs.Runs.{begin}
 use Rattle.routine.specs.Strings.{greater}
-use Rattle.board.specs.Memory.{key, counter, challenge, received}
+use Rattle.board.specs.Memory.{key, counter, attested, challenge, received, replied}
 use Rattle.board.specs.Promises.{Attests}
-use Rattle.claims_monitor.specs.Marked.{pageBytes}
+use Rattle.claims_monitor.specs.Marked.{pageBytes, at, interrupted}
+use Rattle.claims_monitor.specs.Traces.{causeAt}
+use Rattle.claims_attestation.specs.Demand2.{Agrees}
+use Rattle.claims_histories.specs.History.{trace, History, Accepted}
+use Rattle.claims_histories.specs.Visit.{played}
+use Rattle.claims_histories.specs.Script.{encoded}
 
 -- ---- the counter is kept
 
@@ -62,3 +72,45 @@ movedBytes = take 16 pageBytes ++ (0x00 ∷ 0x09 ∷ 0x1f ∷ 0x09 ∷ []) ++ dr
 pub record PageMoved : Type 0 where
   pub passes : layoutCheck movedBytes ≡ Done
   pub moved : Moved (layoutOf pageBytes) (layoutOf movedBytes)
+
+-- ---- a visit runs to its end
+
+-- the visit of an accepted call, cut: a step at PC 0, the 32 stores of the reply, and an interrupt in CR
+abbrev pub cutSteps : Layout → List ℕ → ℕ → Step
+cutSteps l memory zero = at 0
+cutSteps l memory (suc i) = pick (ltb i 32) (played l memory i) (interrupted (l .cr .lo))
+
+abbrev pub cutTrace : Layout → List ℕ → List ℕ
+cutTrace l memory = encoded (cutSteps l memory) 34
+
+-- a history in which a check with a smaller challenge is the later one
+pub record OutOfOrder (layout memory c d altered : List ℕ) : Type 0 where
+  pub history : History
+  pub laid : history .layout ≡ layout
+  pub from : history .memories 0 ≡ memory
+  -- a request for c is put into the mailbox, and event 1 is a visit that an interrupt cuts: no call of `attest`
+  pub asks : challenge (layoutOf layout) (history .memories 1) ≡ c
+  pub cut : history .events 1 ≡ trace (cutTrace (layoutOf layout) (history .memories 1))
+      (traced.Judged (record { steps = 34; resets = 1 }))
+  pub because :
+      (let b = cutTrace (layoutOf layout) (history .memories 1) in
+      causeAt (layoutOf layout) (steps b) (begin (history .memories 1)) 33 ≡ 4)
+  -- the reply to c is there all the same, for AR as it was
+  pub answered :
+      (let l = layoutOf layout in
+      Agrees (key l memory) c (attested l memory) (replied l (history .memories 2)))
+  -- and the counter has not moved: AR is altered, and a request for d is accepted
+  pub uncounted : counter (layoutOf layout) (history .memories 2) ≡ counter (layoutOf layout) memory
+  pub accepted : Accepted history 4 d
+  pub told : (let l = layoutOf layout in Agrees (key l memory) d altered (replied l (history .memories 5)))
+
+-- there is one on every board whose AR shares no address with CR, for all d above CTR and c above d. To the reply to d
+-- the station, which expects AR as it was, says yes only if both regions have one reply; to the reply to c it says yes.
+-- Sorted by challenge, the earlier check stands last
+abbrev pub CheckedOutOfOrder : Type 0
+CheckedOutOfOrder =
+    (layout memory c d altered : List ℕ) → Bytes layout → Good layout
+    → (let l = layoutOf layout in
+    ((a : ℕ) → within (l .ar) a ≡ true → within (l .cr) a ≡ false)
+    → length memory ≡ memoryBytes → length c ≡ 32 → length d ≡ 32 → length altered ≡ size (l .ar)
+    → greater d (counter l memory) ≡ true → greater c d ≡ true → OutOfOrder layout memory c d altered)

@@ -1,6 +1,6 @@
 -- The functions of attestation on plain variables. Assumes nothing.
 use mathlib.Core.Path.{_≡_, sym, subst, _∙_}
-use mathlib.Core.Bool.{false, _||_}
+use mathlib.Core.Bool.{false, _||_, and-false}
 use mathlib.Core.List.{List}
 use Prim.Native.Nat.{ℕ, _+_, _≤_}
 use native.Mathlib.Omega.{arith}
@@ -43,7 +43,7 @@ module _ (l : Layout) (memory k t : List ℕ) (a : ℕ) (s : Sized l) (lk : leng
   requested c n r lc ec en p =
       let z = s .key in
       let h : (long k || long c) ≡ false = simp (short k (omega arith), short c (omega arith)) in
-      let e : row r ≡ row (requestCheck k c t n) = simp h at (p .answered) in
+      let e : row r ≡ row (requestCheck k c t n) = simp (h, and-false) at (p .answered) in
       cc
 
   pub replied-to : (g : List ℕ) (d : Bytes32) → length g ≡ size (l .ar) → size (l .ar) ≤ memoryBytes

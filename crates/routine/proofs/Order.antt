@@ -1,18 +1,18 @@
--- What the comparisons mean: `same` is equality, and `greater` is a strict order, on strings of one length that of the
--- numbers that they stand for. Assumes nothing.
-use mathlib.Core.Path.{_≡_, refl, sym, _∙_}
+-- The claims about the comparisons hold. Assumes nothing.
+use mathlib.Core.Path.{_≡_, refl, sym, ap, _∙_}
 use mathlib.Core.List.{List, [], _∷_}
-use mathlib.Core.Logic.{_↔_, _⊎_, inl, inr}
+use mathlib.Core.Logic.{_⊎_, inl, inr}
 use mathlib.Core.Bool.{true, false, false≢true}
 use Prim.Native.Nat.{ℕ, suc, _+_, _*_, _^_, _<_, _≤_}
 use native.Mathlib.Omega.{arith}
-use native.Mathlib.Nat.{pow-zero, pow-suc, suc-mul, mul-le-mul-right, le-of-lt, le-refl}
-use borrow.Author.Tests.{eqb-true, eqb-false, eq-eqb, ne-eqb, ltb-true, ltb-false, lt-ltb, le-ltb}
+use native.Mathlib.Nat.{pow-zero, pow-suc, suc-mul, mul-le-mul-right}
+use borrow.Author.Tests.{eqb-true, eqb-false, eq-eqb, ne-eqb, ltb-true, ltb-false, lt-ltb}
 use lib.Dec.{ltb, eqb}
 use lib.ListN.{length}
 use Rattle.notions.specs.Bytes.{Bytes}
 use Rattle.notions.proofs.Tests.{cases, both, clash}
 use Rattle.routine.specs.Strings.{greater, same, weight}
+use Rattle.routine.specs.Order as claim
 
 -- ---- `same`
 
@@ -33,12 +33,12 @@ same-equal (x ∷ a) (y ∷ b) e =
     let p = both (eqb x y) (same a b) e in
     cc (eqb-true x y (p .0), same-equal a b (p .1))
 
-pub same-exactly : (a b : List ℕ) → (same a b ≡ true) ↔ (a ≡ b)
+pub same-exactly : claim.SameExactly
 same-exactly a b = (same-equal a b, equal-same a b)
 
 -- ---- `greater` is a strict order on all strings
 
-pub greater-irreflexive : (a : List ℕ) → greater a a ≡ false
+pub greater-irreflexive : claim.GreaterIrreflexive
 unfolding greater
 greater-irreflexive [] = refl
 greater-irreflexive (x ∷ a) = simp (eq-eqb x x refl) (greater-irreflexive a)
@@ -65,7 +65,7 @@ longer-greater : (x : ℕ) (a : List ℕ) → greater (x ∷ a) [] ≡ true
 unfolding greater
 longer-greater x a = refl
 
-pub greater-trans : (a b c : List ℕ) → greater a b ≡ true → greater b c ≡ true → greater a c ≡ true
+pub greater-trans : claim.GreaterTrans
 greater-trans [] b c p q = none-greater b p
 greater-trans (x ∷ a) [] c p q = none-greater c q
 greater-trans (x ∷ a) (y ∷ b) [] p q = longer-greater x a
@@ -144,15 +144,13 @@ not-greater (x ∷ a) (y ∷ b) e p =
     (λ h. inl (by-head y x b a (less x y (eqb-false x y h)
     (λ g. clash (greater (x ∷ a) (y ∷ b)) (by-head x y a b g) p))))
 
-pub greater-weight : (a b : List ℕ) → length a ≡ length b → Bytes a → Bytes b → greater a b ≡ ltb (weight b) (weight a)
-greater-weight a b e ha hb =
-    cases (greater a b)
-    (λ p. p ∙ sym (lt-ltb (weight b) (weight a) (weight-greater a b e ha hb p)))
-    (λ p.
-    let most : weight a ≤ weight b =
-    elim (not-greater a b e p) [
-      | inl q ↦ le-of-lt (weight-greater b a (sym e) hb ha q)
-      | inr q ↦ rw q
-          (le-refl (weight b))
-    ] in
-    p ∙ sym (le-ltb (weight b) (weight a) most))
+pub greater-weight : claim.GreaterWeight
+greater-weight a b e ha hb = (weight-greater a b e ha hb, heavier)
+  where
+    heavier : weight b < weight a → greater a b ≡ true
+    heavier h =
+        cases (greater a b) (λ p. p)
+        (λ p. elim (not-greater a b e p) [
+          | inl q ↦ absurd (omega (arith, weight-greater b a (sym e) hb ha q))
+          | inr q ↦ absurd (omega (arith, ap weight q))
+        ])

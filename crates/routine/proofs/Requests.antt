@@ -53,25 +53,25 @@ module _ (k challenge region : List ℕ) where
 -- ---- steps 1 and 2
 
 module _ (k challenge received counter : List ℕ) where
-  pub refuses-length : (r : Answer) → (long k || long challenge) ≡ true → row r ≡ refusedWith lengthOrTotal
+  pub refuses-old : (r : Answer) → greater challenge counter ≡ false → row r ≡ refusedWith challengeNotGreater
       → Authorises k challenge received counter r
-  refuses-length r h e = record { answered = e ∙ simp h }
+  unfolding requestCheck
+  refuses-old r g e = record { answered = e ∙ simp g }
 
-  module _ (h : (long k || long challenge) ≡ false) where
-    pub refuses-old : (r : Answer) → greater challenge counter ≡ false → row r ≡ refusedWith challengeNotGreater
+  module _ (g : greater challenge counter ≡ true) where
+    pub refuses-length : (r : Answer) → (long k || long challenge) ≡ true → row r ≡ refusedWith lengthOrTotal
         → Authorises k challenge received counter r
-    unfolding requestCheck
-    refuses-old r g e = record { answered = e ∙ simp (h, g) }
+    refuses-length r h e = record { answered = e ∙ simp (g, h) }
 
-    module _ (g : greater challenge counter ≡ true) (t : Bytes32) (p : Tokens k challenge t) where
+    module _ (h : (long k || long challenge) ≡ false) (t : Bytes32) (p : Tokens k challenge t) where
       made : t .bytes ≡ token k challenge
       made = gives-bytes p h
 
       pub refuses-token : (r : Answer) → same (t .bytes) received ≡ false → row r ≡ refusedWith tokenDiffers
           → Authorises k challenge received counter r
       unfolding requestCheck
-      refuses-token r s e = record { answered = e ∙ simp (h, g, rw made at s) }
+      refuses-token r s e = record { answered = e ∙ simp (g, h, rw made at s) }
 
       pub authorises : same (t .bytes) received ≡ true → Authorises k challenge received counter Done
       unfolding requestCheck
-      authorises s = record { answered = simp (h, g, rw made at s) }
+      authorises s = record { answered = simp (g, h, rw made at s) }

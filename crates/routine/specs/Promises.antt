@@ -1,7 +1,8 @@
 -- What the functions on plain slices promise, for all inputs. HMAC takes a key and a message of 0 to 65,536 bytes each,
--- so a longer string is refused with 12; on a board and at the station none is. Assumes nothing.
+-- so what would need one of longer strings is refused with 12; on a board and at the station none is longer.
+-- Assumes nothing.
 use mathlib.Core.Path.{_≡_}
-use mathlib.Core.Bool.{Bool, _||_}
+use mathlib.Core.Bool.{Bool, _&&_, _||_}
 use mathlib.Core.List.{List}
 use Prim.Native.Nat.{ℕ}
 use Rattle.notions.specs.Choice.{pick}
@@ -33,8 +34,9 @@ RepliesTo k t region r = Gives (long k || long t || long region) (replyTo k t re
 abbrev pub Replies : List ℕ → List ℕ → List ℕ → Bytes32 → Type 0
 Replies k challenge region r = Gives (long k || long challenge || long region) (reply k challenge region) r
 
--- `authorise`: steps 1 and 2
+-- `authorise`: steps 1 and 2. 12 stands behind 10 and before 11: a length is told only if the challenge is greater
 pub record Authorises (k challenge received counter : List ℕ) (r : Answer) : Type 0 where
   pub answered :
       row r
-      ≡ row (pick (long k || long challenge) (refusedAt lengthOrTotal 0) (requestCheck k challenge received counter))
+      ≡ row (pick (greater challenge counter && (long k || long challenge)) (refusedAt lengthOrTotal 0)
+      (requestCheck k challenge received counter))

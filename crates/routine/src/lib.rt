@@ -77,11 +77,11 @@ pub fn authorise(key: &[u8], challenge: &[u8], received: &[u8], counter: &[u8]) 
     ensures { λ r. ⌜ P.Authorises (now (key .entry)) (now (challenge .entry)) (now (received .entry))
         (now (counter .entry)) r ⌝ }
 {
-    if (key.len() > hmac::MOST) | (challenge.len() > hmac::MOST) {
-        return refusal::refused(refusal::LENGTH_OR_TOTAL);
-    }
     if !greater(challenge, counter) {
         return refusal::refused(refusal::CHALLENGE_NOT_GREATER);
+    }
+    if (key.len() > hmac::MOST) | (challenge.len() > hmac::MOST) {
+        return refusal::refused(refusal::LENGTH_OR_TOTAL);
     }
     let t = token(key, challenge).bytes;
     if !equal(&t, received) {

@@ -7,15 +7,14 @@ use lib.ListN.{length, take, set, replicate, length-append, length-replicate}
 use lib.Seq.{paste, take-paste, take-length, take-append-add, set-at}
 use Rattle.sha256_block.specs.Words.{bytes}
 use Rattle.sha256_block.specs.Block.{whole}
-use Rattle.sha256_digest.specs.Hash.{zeros, padding, padded, out}
+use Rattle.sha256_digest.specs.Hash.{zeros, padding, out}
+use Rattle.sha256_digest.specs.Padding as claim
 use Rattle.sha256_digest.proofs.Lists.{take-replicate, drop-replicate}
 
--- 5.1.1 in bits: the zero bits behind the one bit, seven in its own byte, are the fewest k with n * 8 + 1 + k ≡ 448
--- modulo 512
-pub zeros-fit : (n : ℕ) → (n * 8 + 1 + (7 + zeros n * 8)) % 512 ≡ 448
+pub zeros-fit : claim.ZerosFit
 zeros-fit n = omega arith
 
-pub zeros-fewest : (n k : ℕ) → (n * 8 + 1 + k) % 512 ≡ 448 → 7 + zeros n * 8 ≤ k
+pub zeros-fewest : claim.ZerosFewest
 zeros-fewest n k h = omega arith
 
 length-bytes-8 : (x : ℕ) → length (bytes 8 x) ≡ 8
@@ -29,8 +28,7 @@ length-padding n =
     (length-append (replicate (zeros n) 0) (bytes 8 (n * 8))
     ∙ cc (length-replicate {A = ℕ} (zeros n) 0, length-bytes-8 (n * 8)))
 
--- 5.2.1: a message with its padding is whole blocks
-pub padded-whole : (m : List ℕ) → length (padded m) % 64 ≡ 0
+pub padded-whole : claim.PaddedWhole
 padded-whole m = omega (arith, length-append m (padding (length m)), length-padding (length m))
 
 pub length-be8 : (b : List ℕ) (x : ℕ) → b ≡ bytes 8 x → length b ≡ 8

@@ -1,2 +1,3 @@
 pub mod Hash
+pub mod Padding
 pub mod Promises

@@ -6,14 +6,16 @@ use borrow.Author.Needs.{needs}
 use Rattle.routine.proofs.authorise.Statement.{statement}
 use Rattle.routine.proofs.authorise.Tie as tie
 
+greater-requires : tie.Need-greater-requires
+greater-requires c κs = search needs
+
 refused-requires : tie.Need-refused-requires
 refused-requires c κs = search needs
 
 returns : tie.Need-returns
-returns c = refuses-length _ _ _ _ _ (c .before .if1 .taken) (c .refused .ensures)
-
-greater-requires : tie.Need-greater-requires
-greater-requires c κs = search needs
+returns c =
+    let z = c .before .before in
+    refuses-old _ _ _ _ _ (sym (z .greater .ensures) ∙ not-true _ (c .before .if1 .taken)) (c .refused .ensures)
 
 refused-requires-2 : tie.Need-refused-requires-2
 refused-requires-2 c κs = search needs
@@ -22,7 +24,7 @@ returns-2 : tie.Need-returns-2
 returns-2 c =
     let y = c .before .before in
     let z = y .before in
-    refuses-old _ _ _ _ (z .if1 .left) _ (sym (y .greater .ensures) ∙ not-true _ (c .before .if2 .taken))
+    refuses-length _ _ _ _ (sym (z .greater .ensures) ∙ not-false _ (y .if1 .left)) _ (c .before .if2 .taken)
     (c .refused2 .ensures)
 
 token-requires : tie.Need-token-requires
@@ -44,7 +46,7 @@ returns-3 c =
     let x = w .before in
     let y = x .before in
     let z = y .before in
-    refuses-token _ _ _ _ (z .if1 .left) (sym (y .greater .ensures) ∙ not-false _ (x .if2 .left)) (w .token .result)
+    refuses-token _ _ _ _ (sym (z .greater .ensures) ∙ not-false _ (y .if1 .left)) (x .if2 .left) (w .token .result)
     (w .token .ensures) _ (sym (v .equal .ensures) ∙ not-true _ (c .before .if3 .taken)) (c .refused3 .ensures)
 
 returns-4 : tie.Need-returns-4
@@ -53,16 +55,16 @@ returns-4 c =
     let x = w .before in
     let y = x .before in
     let z = y .before in
-    authorises _ _ _ _ (z .if1 .left) (sym (y .greater .ensures) ∙ not-false _ (x .if2 .left)) (w .token .result)
+    authorises _ _ _ _ (sym (z .greater .ensures) ∙ not-false _ (y .if1 .left)) (x .if2 .left) (w .token .result)
     (w .token .ensures) (sym (c .before .equal .ensures) ∙ not-false _ (c .if3 .left))
 
 pub authorise-spec : {M : Type 1} → statement M
 authorise-spec =
     tie.close
     (tie.spec
+    greater-requires
     refused-requires
     returns
-    greater-requires
     refused-requires-2
     returns-2
     token-requires

@@ -1,7 +1,7 @@
 -- Demand 1: every public call takes any bytes, lengths and addresses and answers; wrong input gets the numbered refusal
 -- of the rules page, in exactly the listed cases, and changes no lent byte. The page's table as lists of conditions, in
--- its order and in numbers, without the tests of the checks; then the claims. The proofs are in proofs/Demand1.antt.
--- Assumes nothing.
+-- its order and in numbers; then the claims. Of the tests that the checks make one stands here too: `greater`, which
+-- compares challenges. The proofs are in proofs/Demand1.antt. Assumes nothing.
 use mathlib.Core.Path.{_≡_}
 use mathlib.Core.Logic.{_≢_, _⊎_}
 use mathlib.Core.Bool.{false}

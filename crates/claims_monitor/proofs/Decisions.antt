@@ -24,7 +24,7 @@ use Rattle.monitor.specs.Decisions.{next, decidedAnswer}
 use Rattle.rules.proofs.Laws.{held-away, quiet-passes, cause-lowest}
 use Rattle.monitor.specs.declared.Totals.{Totals}
 use Rattle.monitor.specs.declared.Traced.the-variants as traced
-use Rattle.effects.specs.Effects.{answer, bytes}
+use Rattle.effects.specs.Effects.{bytes}
 use Rattle.traces.specs.Traces.{answerSize, count, steps}
 use Rattle.monitor.specs.Runs.{begin, before, resetting, roomAfter, totals}
 use Rattle.traces.specs.Traces.{traceCheck, stepCheck}

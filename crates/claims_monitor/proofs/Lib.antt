@@ -3,6 +3,7 @@ pub mod Causes
 pub mod Exposed
 pub mod Runs
 pub mod Traces
+pub mod Outside
 pub mod Vrased
 pub mod Decisions
 pub mod Memories

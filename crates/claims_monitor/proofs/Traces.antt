@@ -1,22 +1,24 @@
 -- The claims about every trace hold. Assumes nothing.
 use mathlib.Core.Path.{_≡_, refl, sym, ap, subst, _∙_}
 use mathlib.Core.Logic.{_≢_, inl, inr}
-use mathlib.Core.Bool.{Bool, true, false, not, _&&_, or-true, and-false}
+use mathlib.Core.Bool.{Bool, true, false, not, _&&_, or-true, and-false, and-true}
 use mathlib.Core.List.{List, _++_}
 use Prim.Native.Nat.{ℕ, zero, suc, _+_, _*_, _≤_, _<_}
-use native.Mathlib.Nat.{not-suc-le-zero}
+use native.Mathlib.Nat.{add-zero, add-suc, not-suc-le-zero}
 use native.Mathlib.Omega.{arith}
 use lib.Dec.{eqb}
-use lib.ListN.{length, getD, take, drop, length-drop}
-use lib.Seq.{take-append-le, drop-append-le, drop-append-add}
-use borrow.Author.Tests.{eqb-true, eqb-false, ne-eqb, not-true, not-false}
+use lib.ListN.{length, getD, set, take, drop, length-set, length-drop}
+use lib.Seq.{take-append-le, drop-append-le, drop-append-add, getD-set-same, getD-set-other}
+use borrow.Author.Tests.{eqb-true, eqb-false, eq-eqb, ne-eqb, not-true, not-false}
 use Rattle.notions.specs.Choice.{pick}
 use Rattle.notions.specs.First.{first}
 use Rattle.refusal.specs.declared.Answer.the-variants.{Done}
 use Rattle.notions.proofs.Tests.{cases, clash, both}
 use Rattle.layout.specs.declared.Layout.{Layout}
-use Rattle.layout.specs.Layouts.{layoutOf, layoutCheck}
+use Rattle.layout.specs.Layouts.{XS, MR, CTR, AR, layoutOf, layoutCheck}
+use Rattle.layout.specs.Good.{Good}
 use Rattle.layout.specs.Calls.{memoryBytes, callCheck}
+use Rattle.layout.proofs.Laws.{elsewhere}
 use Rattle.layout.proofs.Calls.{call-passed, call-rest}
 use Rattle.layout.specs.Regions.{within, outside}
 use Rattle.steps.specs.declared.Step.{Step}
@@ -30,7 +32,7 @@ use Rattle.monitor.specs.declared.Stepped.{Stepped}
 use Rattle.monitor.specs.declared.Stepped.the-variants as stepped
 use Rattle.monitor.specs.declared.Totals.{Totals}
 use Rattle.monitor.specs.declared.Traced.the-variants as traced
-use Rattle.effects.specs.Effects.{cpuExposed, dmaExposed, exposing, answer, bytes, lands, written}
+use Rattle.effects.specs.Effects.{cpuExposed, dmaExposed, exposing, answer, bytes, lands, stored, storing, written}
 use Rattle.monitor.specs.Runs.{State, begin, before, said, resetting}
 use Rattle.traces.specs.Traces.{stepSize, answerSize, count, stepBytes, steps}
 use Rattle.monitor.specs.Runs.{totals}
@@ -51,21 +53,53 @@ use Rattle.claims_monitor.proofs.Exposed.{cpu-outside, dma-outside}
 pub length-kept : claim.LengthKept
 length-kept = length-before
 
+-- what one access leaves at an address of the memory
+module _ (l : Layout) (on : Bool) (a v : ℕ) (memory : List ℕ) (k : ℕ) (h : k < length memory) where
+  set-here : (t : Bool) → getD (pick t (set memory k v) memory) k 0 ≡ pick t v (getD memory k 0)
+  set-here true = getD-set-same memory k v 0 h
+  set-here false = refl
+
+  set-elsewhere : (a ≡ k → ⊥) → (t : Bool) → getD (pick t (set memory a v) memory) k 0 ≡ getD memory k 0
+  set-elsewhere n true = getD-set-other memory a k v 0 (λ e. n (sym e))
+  set-elsewhere n false = refl
+
+  stored-at : getD (stored l on a v memory) k 0
+      ≡ pick (on && eqb a k && outside (l .cr) k && outside (l .kr) k) v (getD memory k 0)
+  unfolding stored
+  stored-at =
+      cases (eqb a k)
+      (λ e. simp (eqb-true a k e, eq-eqb k k refl, and-true) (set-here (lands l on k)))
+      (λ e. simp (e, and-false) (set-elsewhere (eqb-false a k e) (lands l on a)))
+
+  length-stored : k < length (stored l on a v memory)
+  unfolding stored
+  length-stored = cases (lands l on a) (λ e. simp (e, length-set) h) (λ e. simp e h)
+
+pub stored-byte : claim.StoredByte
+unfolding before written storing
+stored-byte l t x n a h =
+    let s = t n in
+    let memory = before l t x n .memory in
+    let i : a < length memory = rw (length-before l t x n) h in
+    let c = stored-at l (s .cpuwrites) (s .cpuaddress) (s .cpudata) memory a i in
+    let d =
+    stored-at l (s .dmaactive && s .dmawrites) (s .dmaaddress) (s .dmadata) _ a
+    (length-stored l (s .cpuwrites) (s .cpuaddress) (s .cpudata) memory a i) in
+    cases (resetsAt l t x n) (λ e. simp e) (λ e. simp e (d ∙ ap (pick (claim.dmaStoresAt l s a) (s .dmadata)) c))
+
 -- no store lands in CR or KR
-lands-not-rom : (l : Layout) (on : Bool) (a : ℕ) {P : Type 0} → lands l on a ≡ true → crOrKr l a ≡ true → P
-lands-not-rom l on a h e =
-    let out = both (on && outside (l .cr) a) (outside (l .kr) a) h in
-    let c = not-true (within (l .cr) a) (both on (outside (l .cr) a) (out .0) .1) in
-    let k = not-true (within (l .kr) a) (out .1) in
-    clash (crOrKr l a) e (simp (c, k))
+pub barred : (l : Layout) (on : Bool) (a : ℕ) → crOrKr l a ≡ true → lands l on a ≡ false
+barred l on a e =
+    cases (within (l .cr) a) (λ c. simp (c, and-false))
+    (λ c. let k : within (l .kr) a ≡ true = simp c at e in simp (k, and-false))
 
 step-rom : (l : Layout) (m : Monitor) (s : Step) (memory : List ℕ) (a : ℕ) → crOrKr l a ≡ true
     → getD (decidedMemory l m s memory) a 0 ≡ getD memory a 0
 step-rom l m s memory a e =
     elim (written-byte l (cause l m s) s memory a) [
       | inl stays ↦ stays
-      | inr (inl c) ↦ lands-not-rom l (s .cpuwrites) (s .cpuaddress) (c .lands) (rw (c .address) e)
-      | inr (inr d) ↦ lands-not-rom l (s .dmaactive && s .dmawrites) (s .dmaaddress) (d .lands) (rw (d .address) e)
+      | inr (inl c) ↦ clash _ (c .lands) (barred l (s .cpuwrites) (s .cpuaddress) (rw (c .address) e))
+      | inr (inr d) ↦ clash _ (d .lands) (barred l (s .dmaactive && s .dmawrites) (s .dmaaddress) (rw (d .address) e))
     ]
 
 -- a byte that each step leaves as it is
@@ -142,6 +176,45 @@ guarded-alone l t x n a z e =
       | inr c ↦ inr (c, runs-alone l t x n z (c .passes) (c .inside))
     ]
 
+-- with a layout that passes the check, CR does not hold 0, and AR is apart from all that the attestation code may write
+module _ (layout : List ℕ) (good : Good layout) where
+  pub code-off-zero : within (layoutOf layout .cr) 0 ≡ false
+  unfolding layoutOf
+  code-off-zero = good .zero
+
+  pub attested-unwritable : (a : ℕ) → within (layoutOf layout .ar) a ≡ true → writable (layoutOf layout) a ≡ false
+  unfolding layoutOf
+  attested-unwritable a e =
+      let x = elsewhere good AR XS (omega arith) (omega arith) (λ q. omega arith) refl refl a e in
+      let m = elsewhere good AR MR (omega arith) (omega arith) (λ q. omega arith) refl refl a e in
+      let c = elsewhere good AR CTR (omega arith) (omega arith) (λ q. omega arith) refl refl a e in
+      simp (x, m, c)
+
+-- so a step with PC in CR leaves AR as it is
+pub attested-step : (l : Layout) → within (l .cr) 0 ≡ false → (t : ℕ → Step) (x : State) (n a : ℕ) → writable l a ≡ false
+    → within (l .cr) (t n .pc) ≡ true → byteAt l t x (suc n) a ≡ byteAt l t x n a
+unfolding before
+attested-step l z t x n a o i =
+    let m = remembers l t x n in
+    let s = t n in
+    elim (written-byte l (cause l m s) s (before l t x n .memory) a) [
+      | inl stays ↦ stays
+      | inr (inl c) ↦
+          let w = lands-on l (s .cpuwrites) (s .cpuaddress) (c .lands) in
+          clash (writable l a) (rw (sym (c .address)) (runs-alone l t x n z (c .passes) i .kept w)) o
+      | inr (inr d) ↦
+          let on = lands-on l (s .dmaactive && s .dmawrites) (s .dmaaddress) (d .lands) in
+          clash (s .dmaactive) (both (s .dmaactive) (s .dmawrites) on .0) (runs-alone l t x n z (d .passes) i .idle)
+    ]
+
+pub attested-stays : claim.AttestedStays
+attested-stays layout t x n zero a good f e = rw add-zero refl
+attested-stays layout t x n (suc k) a good f e =
+    rw add-suc
+    (attested-step (layoutOf layout) (code-off-zero layout good) t x (n + k) a (attested-unwritable layout good a e)
+    (f (n + k) (omega arith) (omega arith))
+    ∙ attested-stays layout t x n k a good (λ i p q. f i p (omega arith)) e)
+
 -- ---- answers
 
 pub resets-nothing : claim.ResetsNothing
@@ -154,6 +227,12 @@ bits-of true true = (refl, refl)
 bits-of true false = (refl, refl)
 bits-of false true = (refl, refl)
 bits-of false false = (refl, refl)
+
+bits-most : (c d : Bool) → pick c 1 0 + pick d 2 0 < 4
+bits-most true true = omega arith
+bits-most true false = omega arith
+bits-most false true = omega arith
+bits-most false false = omega arith
 
 -- what an answer tells of the two bytes
 record Exposes (l : Layout) (m : Monitor) (s : Step) (memory : List ℕ) : Type 0 where
@@ -174,30 +253,55 @@ exposes-at : (l : Layout) (t : ℕ → Step) (x : State) (n : ℕ)
     → Exposes l (remembers l t x n) (t n) (before l t x n .memory)
 exposes-at l t x n = exposes l (remembers l t x n) (t n) (before l t x n .memory)
 
+-- what is handed out is told by its bit
+module _ (l : Layout) (t : ℕ → Step) (x : State) (n : ℕ) where
+  cpu-told : claim.CpuHands l t x n → bit 0 (said l t x n .exposed) ≡ true
+  cpu-told c = exposes-at l t x n .cpu-bit ∙ simp (c .passes, c .reads, c .apart)
+
+  dma-told : claim.DmaHands l t x n → bit 1 (said l t x n .exposed) ≡ true
+  dma-told d = exposes-at l t x n .dma-bit ∙ simp (d .passes, d .active, d .reads)
+
+  cpu-hands : bit 0 (said l t x n .exposed) ≡ true → claim.CpuHands l t x n
+  cpu-hands e =
+      let b = both (not (resetsAt l t x n)) (cpuExposed l (t n)) (sym (exposes-at l t x n .cpu-bit) ∙ e) in
+      let c = both (t n .cpureads) (outside (l .cr) (t n .pc)) (b .1) in
+      record { passes = not-true (resetsAt l t x n) (b .0); reads = c .0; apart = c .1 }
+
+  dma-hands : bit 1 (said l t x n .exposed) ≡ true → claim.DmaHands l t x n
+  dma-hands e =
+      let b = both (not (resetsAt l t x n)) (dmaExposed (t n)) (sym (exposes-at l t x n .dma-bit) ∙ e) in
+      let d = both (t n .dmaactive) (not (t n .dmawrites)) (b .1) in
+      record { passes = not-true (resetsAt l t x n) (b .0); active = d .0; reads = not-true (t n .dmawrites) (d .1) }
+
 pub cpu-exposed : claim.CpuExposed
-cpu-exposed l t x n e =
-    let m = remembers l t x n in
-    let s = t n in
-    let b = sym (exposes-at l t x n .cpu-bit) ∙ e in
-    let h = both (not (resets l m s)) (cpuExposed l s) b in
-    let r = not-true (resets l m s) (h .0) in
-    let c = both (s .cpureads) (outside (l .cr) (s .pc)) (h .1) in
-    let o = cpu-outside l m s (passes-cause l m s r) (h .1) in
-    (c .0, c .1, record { passes = r; key = o .0; scratch = o .1; byte = simp b at (exposes-at l t x n .cpu-byte) })
+cpu-exposed l t x n = (cpu-hands l t x n, cpu-told l t x n)
 
 pub dma-exposed : claim.DmaExposed
-dma-exposed l t x n e =
+dma-exposed l t x n = (dma-hands l t x n, dma-told l t x n)
+
+pub two-bits : claim.TwoBits
+unfolding answer exposing
+two-bits l t x n =
+    cases (resetsAt l t x n) (λ e. simp e (omega arith))
+    (λ e. simp e (bits-most (cpuExposed l (t n)) (dmaExposed (t n))))
+
+pub cpu-shown : claim.CpuShown
+cpu-shown l t x n b =
     let m = remembers l t x n in
     let s = t n in
-    let b = sym (exposes-at l t x n .dma-bit) ∙ e in
-    let h = both (not (resets l m s)) (dmaExposed s) b in
-    let r = not-true (resets l m s) (h .0) in
-    let c = both (s .dmaactive) (not (s .dmawrites)) (h .1) in
-    let o = dma-outside l m s (passes-cause l m s r) (h .1) in (
-      c .0,
-      not-true (s .dmawrites) (c .1),
-      record { passes = r; key = o .0; scratch = o .1; byte = simp b at (exposes-at l t x n .dma-byte) },
-    )
+    let c = cpu-hands l t x n b in
+    let o = cpu-outside l m s (passes-cause l m s (c .passes)) (simp (c .reads, c .apart)) in
+    let e = exposes-at l t x n in
+    record { key = o .0; scratch = o .1; byte = simp (sym (e .cpu-bit) ∙ b) at (e .cpu-byte) }
+
+pub dma-shown : claim.DmaShown
+dma-shown l t x n b =
+    let m = remembers l t x n in
+    let s = t n in
+    let d = dma-hands l t x n b in
+    let o = dma-outside l m s (passes-cause l m s (d .passes)) (simp (d .active, d .reads)) in
+    let e = exposes-at l t x n in
+    record { key = o .0; scratch = o .1; byte = simp (sym (e .dma-bit) ∙ b) at (e .dma-byte) }
 
 pub not-exposed : claim.NotExposed
 not-exposed l t x n =

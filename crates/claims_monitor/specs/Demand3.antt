@@ -16,7 +16,6 @@ use Rattle.rules.specs.Rules.{codeWritesIn, start}
 use Rattle.monitor.specs.Decisions.{decidedAnswer}
 use Rattle.monitor.specs.declared.Stepped.{Stepped}
 use Rattle.monitor.specs.declared.Traced.{Traced}
-use Rattle.effects.specs.Effects.{answer}
 use Rattle.traces.specs.Traces.{stepSize, steps}
 use Rattle.monitor.specs.Runs.{State, begin, before, said, answers, resetting}
 use Rattle.monitor.specs.Promises.{Steps, Traces}

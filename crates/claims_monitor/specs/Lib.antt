@@ -1,6 +1,7 @@
 pub mod Marked
 pub mod Causes
 pub mod Traces
+pub mod Outside
 pub mod Vrased
 pub mod Decisions
 pub mod Demand3

@@ -1,13 +1,16 @@
 -- What the rules give for every trace, from any state, by the step's number. Assumes nothing.
 use mathlib.Core.Path.{_≡_}
-use mathlib.Core.Logic.{_≢_, _⊎_}
-use mathlib.Core.Bool.{Bool, true, false, _||_}
+use mathlib.Core.Logic.{_≢_, _↔_, _⊎_}
+use mathlib.Core.Bool.{Bool, true, false, _&&_, _||_}
 use mathlib.Core.List.{List, [], _∷_, _++_}
 use Prim.Native.Nat.{ℕ, zero, suc, _+_, _*_, _≤_, _<_}
+use lib.Dec.{eqb}
 use lib.ListN.{length, getD, take, drop}
 use Rattle.notions.specs.Choice.{pick}
 use Rattle.layout.specs.declared.Layout.{Layout}
 use Rattle.layout.specs.Regions.{within, outside}
+use Rattle.layout.specs.Layouts.{layoutOf}
+use Rattle.layout.specs.Good.{Good}
 use Rattle.steps.specs.declared.Step.{Step}
 use Rattle.rules.specs.declared.Monitor.{Monitor}
 use Rattle.steps.specs.Steps.{bit}
@@ -45,6 +48,24 @@ module _ (l : Layout) (t : ℕ → Step) (x : State) where
 -- the memory keeps its length
 abbrev pub LengthKept : Type 0
 LengthKept = (l : Layout) (t : ℕ → Step) (x : State) (n : ℕ) → length (before l t x n .memory) ≡ length (x .memory)
+
+-- the step's DMA store is to address a, and it has an effect there: a is outside CR and KR
+abbrev pub dmaStoresAt : Layout → Step → ℕ → Bool
+dmaStoresAt l s a =
+    s .dmaactive && s .dmawrites && eqb (s .dmaaddress) a && outside (l .cr) a && outside (l .kr) a
+
+-- and so the CPU's
+abbrev pub cpuStoresAt : Layout → Step → ℕ → Bool
+cpuStoresAt l s a = s .cpuwrites && eqb (s .cpuaddress) a && outside (l .cr) a && outside (l .kr) a
+
+-- what step n leaves at each address of the memory: if it resets, the byte from before; else the DMA's, if the DMA
+-- stores there, else the CPU's, if the CPU does, else the byte from before
+abbrev pub StoredByte : Type 0
+StoredByte =
+    (l : Layout) (t : ℕ → Step) (x : State) (n a : ℕ) → a < length (x .memory)
+    → byteAt l t x (suc n) a
+    ≡ pick (resetsAt l t x n) (byteAt l t x n a)
+    (pick (dmaStoresAt l (t n) a) (t n .dmadata) (pick (cpuStoresAt l (t n) a) (t n .cpudata) (byteAt l t x n a)))
 
 -- the address is in a ROM region
 abbrev pub crOrKr : Layout → ℕ → Bool
@@ -93,6 +114,14 @@ GuardedAlone =
     (l : Layout) (t : ℕ → Step) (x : State) (n a : ℕ) → within (l .cr) 0 ≡ false → ctrOrXs l a ≡ true
     → (byteAt l t x (suc n) a ≡ byteAt l t x n a) ⊎ (CodeStores l t x n a × Alone l t x n)
 
+-- with a layout that passes the check, no byte of AR changes while PC is in CR, whether these steps reset or not
+abbrev pub AttestedStays : Type 0
+AttestedStays =
+    (layout : List ℕ) (t : ℕ → Step) (x : State) (n k a : ℕ) → Good layout
+    → (let l = layoutOf layout in
+    ((i : ℕ) → n ≤ i → i < n + k → within (l .cr) (t i .pc) ≡ true) → within (l .ar) a ≡ true
+    → byteAt l t x (n + k) a ≡ byteAt l t x n a)
+
 -- ---- answers
 
 -- step n has a cause, changes no byte and hands out nothing
@@ -105,24 +134,47 @@ pub record Nothing (l : Layout) (t : ℕ → Step) (x : State) (n : ℕ) : Type 
 abbrev pub ResetsNothing : Type 0
 ResetsNothing = (l : Layout) (t : ℕ → Step) (x : State) (n : ℕ) → resetsAt l t x n ≡ true → Nothing l t x n
 
--- step n shows v, the byte at address a: it does not reset, and the address is outside KR and XS
-pub record Shows (l : Layout) (t : ℕ → Step) (x : State) (n a v : ℕ) : Type 0 where
+-- step n hands out what the CPU reads: it does not reset, the CPU reads, and PC is outside CR
+pub record CpuHands (l : Layout) (t : ℕ → Step) (x : State) (n : ℕ) : Type 0 where
   pub passes : resetsAt l t x n ≡ false
+  pub reads : t n .cpureads ≡ true
+  pub apart : outside (l .cr) (t n .pc) ≡ true
+
+-- step n hands out what the DMA reads: it does not reset, and the DMA is active and does not write
+pub record DmaHands (l : Layout) (t : ℕ → Step) (x : State) (n : ℕ) : Type 0 where
+  pub passes : resetsAt l t x n ≡ false
+  pub active : t n .dmaactive ≡ true
+  pub reads : t n .dmawrites ≡ false
+
+-- bit 0 tells the one and bit 1 the other: each is set exactly then
+abbrev pub CpuExposed : Type 0
+CpuExposed =
+    (l : Layout) (t : ℕ → Step) (x : State) (n : ℕ) → (bit 0 (said l t x n .exposed) ≡ true) ↔ CpuHands l t x n
+
+abbrev pub DmaExposed : Type 0
+DmaExposed =
+    (l : Layout) (t : ℕ → Step) (x : State) (n : ℕ) → (bit 1 (said l t x n .exposed) ≡ true) ↔ DmaHands l t x n
+
+-- no other bit is ever set
+abbrev pub TwoBits : Type 0
+TwoBits = (l : Layout) (t : ℕ → Step) (x : State) (n : ℕ) → said l t x n .exposed < 4
+
+-- step n shows v, the byte at address a before it: the address is outside KR and XS
+pub record Shows (l : Layout) (t : ℕ → Step) (x : State) (n a v : ℕ) : Type 0 where
   pub key : outside (l .kr) a ≡ true
   pub scratch : outside (l .xs) a ≡ true
   pub byte : v ≡ byteAt l t x n a
 
--- the CPU's byte, told by bit 0, is that of a CPU read with PC outside CR
-abbrev pub CpuExposed : Type 0
-CpuExposed =
+-- so it is with the CPU's byte where bit 0 is set, and with the DMA's where bit 1 is
+abbrev pub CpuShown : Type 0
+CpuShown =
     (l : Layout) (t : ℕ → Step) (x : State) (n : ℕ) → bit 0 (said l t x n .exposed) ≡ true
-    → (t n .cpureads ≡ true) × (outside (l .cr) (t n .pc) ≡ true) × Shows l t x n (t n .cpuaddress) (said l t x n .cpubyte)
+    → Shows l t x n (t n .cpuaddress) (said l t x n .cpubyte)
 
--- the DMA's byte, told by bit 1, is that of a DMA read
-abbrev pub DmaExposed : Type 0
-DmaExposed =
+abbrev pub DmaShown : Type 0
+DmaShown =
     (l : Layout) (t : ℕ → Step) (x : State) (n : ℕ) → bit 1 (said l t x n .exposed) ≡ true
-    → (t n .dmaactive ≡ true) × (t n .dmawrites ≡ false) × Shows l t x n (t n .dmaaddress) (said l t x n .dmabyte)
+    → Shows l t x n (t n .dmaaddress) (said l t x n .dmabyte)
 
 -- a byte that is not exposed is 0
 abbrev pub NotExposed : Type 0

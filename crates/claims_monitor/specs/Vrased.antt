@@ -1,18 +1,20 @@
--- The source's properties of a monitor, LTL specifications 3.2 to 3.11, 3.15 and 3.16 of source document 004, of every
--- run from any state. Each claim is the source's formula, except where the line above it says otherwise.
+-- The source's properties of a monitor, LTL specifications 3.2 to 3.11, 3.15 and 3.16 and Lemma 1 of source document
+-- 004, of every run from any state. Each claim is the source's formula, except where the line above it says otherwise.
 -- Assumes nothing.
 use mathlib.Core.Path.{_≡_}
 use mathlib.Core.Bool.{true, false}
-use mathlib.Core.List.{[], _∷_}
+use mathlib.Core.List.{List, [], _∷_}
 use Prim.Native.Nat.{ℕ, suc, _≤_, _<_}
 use lib.ListN.{getD}
 use Rattle.layout.specs.declared.Region.{Region}
 use Rattle.layout.specs.declared.Layout.{Layout}
 use Rattle.layout.specs.Regions.{within}
+use Rattle.layout.specs.Layouts.{layoutOf}
+use Rattle.layout.specs.Good.{Good}
 use Rattle.steps.specs.declared.Step.{Step}
 use Rattle.monitor.specs.Runs.{State, begin}
 use Rattle.claims_monitor.specs.Marked.{page, at, writes, dmaReads}
-use Rattle.claims_monitor.specs.Traces.{resetsAt}
+use Rattle.claims_monitor.specs.Traces.{resetsAt, byteAt}
 
 -- ---- the source's logic
 
@@ -150,7 +152,7 @@ ltl-3-3 = Every (G (~ reset & (PC ∈ CR) & ~ (X PC ∈ CR) ⇒ (PC is CRmax) or
 abbrev pub ltl-3-4 : Type 0
 ltl-3-4 = Every (G (~ reset & ~ (PC ∈ CR) & (X PC ∈ CR) ⇒ (X PC is CRmin) or X reset))
 
--- no interrupt in CR
+-- no interrupt in CR; the premise `zeroOutside` is not the source's
 abbrev pub ltl-3-5 : Type 0
 ltl-3-5 = Every (zeroOutside ⇒ G (irq & (PC ∈ CR) ⇒ reset))
 
@@ -161,7 +163,7 @@ abbrev pub ltl-3-6 : Type 0
 ltl-3-6 = Every (G (~ (PC ∈ CR) & (Ren or Wen) & (Daddr ∈ XS) ⇒ reset))
 
 -- code in CR writes in XS, MR and CTR only: the source relaxes its formula by CTR for verifier authentication, as the
--- page does
+-- page does; the premise `zeroOutside` is not the source's
 abbrev pub ltl-3-7 : Type 0
 ltl-3-7 = Every (zeroOutside ⇒ G ((PC ∈ CR) & Wen & ~ (Daddr ∈ XS) & ~ (Daddr ∈ MR) & ~ (Daddr ∈ CTR) ⇒ reset))
 
@@ -190,9 +192,26 @@ ltl-3-8 = Every (G (DMAen & (DMAaddr ∈ KR) ⇒ reset))
 abbrev pub ltl-3-9 : Type 0
 ltl-3-9 = Every (G (DMAen & (DMAaddr ∈ XS) ⇒ reset))
 
--- no DMA while PC is in CR
+-- no DMA while PC is in CR; the premise `zeroOutside` is not the source's
 abbrev pub ltl-3-10 : Type 0
 ltl-3-10 = Every (zeroOutside ⇒ G ((PC ∈ CR) & DMAen ⇒ reset))
+
+-- ---- temporal consistency
+
+-- AR is M: before this step, each address of AR has M's byte for it
+abbrev pub ARis : (ℕ → ℕ) → Formula
+ARis M r n = (a : ℕ) → within (r .layout .ar) a ≡ true → byteAt (r .layout) (r .trace) (r .from) n a ≡ M a
+
+-- not the source's: the layout is one that passes the check
+abbrev pub checked : Formula
+checked r n = (b : List ℕ) × Good b × (r .layout ≡ layoutOf b)
+
+-- AR does not change while CR runs from its lowest to its highest address without a reset; the premise `checked` is not
+-- the source's
+abbrev pub lemma-1 : Type 0
+lemma-1 =
+    (M : ℕ → ℕ)
+    → Every (checked ⇒ G ((PC is CRmin) & ARis M & (~ reset U (PC is CRmax)) ⇒ ARis M U (PC is CRmax)))
 
 -- ---- secure reset
 

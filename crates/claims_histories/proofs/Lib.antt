@@ -1,5 +1,6 @@
 pub mod History
+pub mod Visit
+pub mod Cut
+pub mod Script
 pub mod OutOfOrder
 pub mod Limits
-pub mod Visit
-pub mod Script

@@ -31,7 +31,7 @@ use Rattle.claims_histories.specs.Limits as claim
 use Rattle.claims_histories.specs.Limits.{cutTrace, OutOfOrder}
 use Rattle.claims_histories.specs.History.{Event, attest, trace, change, Keeps, Happens}
 use Rattle.claims_histories.proofs.History.{Exchange, exchange, trace-keeps}
-use Rattle.claims_histories.proofs.OutOfOrder.{cutTraced, happens, cut-replied, cut-because, changed, changed-keeps}
+use Rattle.claims_histories.proofs.OutOfOrder.{cutTraced, happens, cut-leaves, cut-because, changed, changed-keeps}
 use Rattle.claims_histories.proofs.OutOfOrder.{changed-region}
 
 -- ---- the counter is kept
@@ -135,7 +135,7 @@ cut-visit layout memory c b p =
       keeps = trace-keeps x layout t (h .0 .0) (memoryAfter l t x) (h .0 .1) cutTraced (h .0 .2) (h .1);
       answered =
           subst (Agrees (key l memory) c (attested l memory))
-          (p .replies ∙ sym (cut-replied x layout (p .after) b (p .serves))) (p .told);
+          (p .replies ∙ sym (cut-leaves x layout (p .after) b (p .serves) .reply)) (p .told);
     }
 
 -- and AR altered behind it

@@ -41,33 +41,20 @@ use Rattle.board.specs.Promises.{Attests}
 use Rattle.board.proofs.Stores.{bytes-agree, stored-there, stored-off}
 use Rattle.board.proofs.Laws.{region-agrees, length-due}
 use Rattle.claims_monitor.specs.Marked.{at, interrupted}
-use Rattle.claims_monitor.specs.Traces.{remembers, causeAt, resetsAt}
+use Rattle.claims_monitor.specs.Traces.{remembers, causeAt, resetsAt, Nothing}
 use Rattle.claims_monitor.proofs.Runs.{in-parts}
 use Rattle.claims_monitor.proofs.Traces.{resets-nothing}
 use Rattle.claims_monitor.specs.Traces.{InParts}
 use Rattle.claims_attestation.proofs.Accepts.{Accepts, accepts}
 use Rattle.claims_histories.specs.History.{Keeps, CounterLeft, Happens, trace}
-use Rattle.claims_histories.specs.Visit.{Free, played, storeAt, cutAfter, made, SameOutside}
+use Rattle.claims_histories.specs.Visit.{Free, made, Makes, played}
+use Rattle.claims_histories.specs.Cut.{Uncounted}
 use Rattle.claims_histories.specs.Script.{encoded}
 use Rattle.claims_histories.specs.Limits.{cutSteps, cutTrace}
-use Rattle.claims_histories.proofs.Visit.{visit-passes, unheld-after, last-after, store-small, cut-visit}
-use Rattle.claims_histories.proofs.Visit.{played-plays, played-makes, played-made, all-replied, code-ends}
+use Rattle.claims_histories.proofs.Visit.{visit-passes, code-ends}
+use Rattle.claims_histories.proofs.Cut.{cut-resets, cut-uncounted, can-be-cut}
 use Rattle.claims_histories.proofs.Script.{length-encoded, encoded-fits, code-small, tells-steps, none-reset}
 use Rattle.claims_histories.proofs.Script.{released, first-passes, after-first, played-addressed}
-
--- ---- an interrupt in CR
-
-interrupt-resets : (l : Layout) (m : Monitor) (s : Step) → m .held ≡ false → within (l .cr) (m .lastpc) ≡ true
-    → within (l .cr) (s .pc) ≡ true → s .interrupt ≡ true → cause l m s ≡ 4
-interrupt-resets l m s free last pc i =
-    cause-lowest l m s 4 (simp free) (omega arith) (simp (free, i, pc)) below
-  where
-    below : (j : ℕ) → j < 4 → numbered (broken l m s) j ≡ false
-    below zero h = refl
-    below (suc zero) h = simp pc
-    below (suc (suc zero)) h = simp (pc, and-false)
-    below (suc (suc (suc zero))) h = simp (last, and-false)
-    below (suc (suc (suc (suc j)))) h = absurd (omega arith)
 
 -- one more step of a run
 counted-more : (l : Layout) (t : ℕ → Step) (x : State) (n : ℕ)
@@ -87,9 +74,9 @@ module _ (memory layout memory′ : List ℕ) (h : Bytes layout) (a : Attests me
   abbrev all : ℕ → Step
   all = cutSteps ly memory
 
-  -- the 32 stores, from what stands after the first step
-  abbrev stores : ℕ → Step
-  stores = played ly memory
+  -- all but the first, from what stands after it
+  abbrev rest : ℕ → Step
+  rest i = all (suc i)
 
   call : Accepts memory layout memory′
   call = accepts memory layout memory′ h a
@@ -97,68 +84,60 @@ module _ (memory layout memory′ : List ℕ) (h : Bytes layout) (a : Attests me
   free : Free ly (released memory)
   free = record { unheld = refl; outside = zero-outside layout (call .allowed .laid) }
 
-  abbrev stored : State
-  stored = before ly stores (released memory) 32
+  abbrev last : Step
+  last = interrupted (ly .cr .lo)
 
-  stores-pass : (i : ℕ) → i < 32 → causeAt ly stores (released memory) i ≡ 0
-  stores-pass i k =
-      visit-passes ly stores (released memory) 32 free
-      (played-makes memory layout memory′ h a stores (λ j e. refl) 32 (omega arith) .begins) i k
+  cut : Makes ly memory rest 32 × (made ly rest 32 ≡ 32) × (rest 32 ≡ last)
+  cut = can-be-cut memory layout memory′ 32 last h a (omega arith) (omega arith)
 
-  stored-at : (i : ℕ) → i < 32 → all (suc i) ≡ stores i
-  stored-at i k = let t = lt-ltb i 32 k in simp t
+  inside : within (ly .cr) (rest 32 .pc) ≡ true
+  inside = ap (λ (s : Step). within (ly .cr) (s .pc)) (cut .2) ∙ code-ends layout (call .good) .0
 
-  in-two : InParts ly all all stores (begin memory) 1 32
+  stopped : Nothing ly rest (released memory) 32 × (rest 32 .interrupt ≡ true → causeAt ly rest (released memory) 32 ≡ 4)
+  stopped = cut-resets ly rest (released memory) 32 free (cut .0 .begins) (omega arith) inside refl
+
+  rest-leaves : Uncounted ly memory (before ly rest (released memory) 33 .memory)
+  rest-leaves = cut-uncounted layout memory′ rest (released memory) 32 h free a (cut .0) (cut .1) inside refl
+
+  rest-counts : resetting ly rest (released memory) 33 ≡ 1
+  rest-counts =
+      counted-more ly rest (released memory) 32
+      ∙ simp (
+        none-reset ly rest (released memory) 32 (visit-passes ly rest (released memory) 32 free (cut .0 .begins)),
+        stopped .1 refl,
+      )
+
+  in-two : InParts ly all all rest (begin memory) 1 33
   in-two =
-      in-parts ly all all stores (begin memory) 1 32 (λ i k. refl)
-      (λ i k. let q : 1 + i ≡ suc i = omega arith in ap all q ∙ stored-at i k)
+      in-parts ly all all rest (begin memory) 1 33 (λ i k. refl)
+      (λ i k. let q : 1 + i ≡ suc i = omega arith in ap all q)
 
-  comes : before ly all (begin memory) 33 ≡ stored
-  comes = in-two .left ∙ ap (λ (x : State). before ly stores x 32) (after-first ly all memory refl)
+  first-left : before ly all (begin memory) 1 ≡ released memory
+  first-left = after-first ly all memory refl
 
-  none : resetting ly all (begin memory) 33 ≡ 0
-  none =
+  all-left : before ly all (begin memory) 34 ≡ before ly rest (released memory) 33
+  all-left = in-two .left ∙ ap (λ (x : State). before ly rest x 33) first-left
+
+  all-counted : resetting ly all (begin memory) 34 ≡ 1
+  all-counted =
       in-two .counted
       ∙ simp (
         none-reset ly all (begin memory) 1
             (λ i k. let q : i ≡ 0 = omega arith in rw q (first-passes ly all memory refl)),
-        after-first ly all memory refl,
-        none-reset ly stores (released memory) 32 stores-pass,
+        first-left,
+        rest-counts,
       )
 
-  interrupted-there : cause ly (stored .monitor) (interrupted (ly .cr .lo)) ≡ 4
-  interrupted-there =
-      let e = stores-pass 31 (omega arith) in
-      let c = code-ends layout (call .good) .0 in
-      interrupt-resets ly (stored .monitor) (interrupted (ly .cr .lo)) (unheld-after ly stores (released memory) 31 e)
-      (ap (within (ly .cr)) (last-after ly stores (released memory) 31 e) ∙ c) c refl
-
   cause-is : causeAt ly all (begin memory) 33 ≡ 4
-  cause-is = ap (λ (x : State). cause ly (x .monitor) (interrupted (ly .cr .lo))) comes ∙ interrupted-there
-
-  left : before ly all (begin memory) 34 .memory ≡ stored .memory
-  left = resets-nothing ly all (begin memory) 33 (simp cause-is) .stored ∙ ap (λ (x : State). x .memory) comes
-
-  counts : resetting ly all (begin memory) 34 ≡ 1
-  counts = counted-more ly all (begin memory) 33 ∙ simp (none, cause-is)
-
-  -- the reply is there
-  replied-there : replied ly (stored .memory) ≡ due ly memory
-  unfolding layoutOf
-  replied-there =
-      let w = call .lies in
-      let g =
-      cut-visit layout memory′ stores (released memory) 32 32 h free a
-      (played-makes memory layout memory′ h a stores (λ j e. refl) 32 (omega arith)) (omega arith) in
-      let e : cutAfter ly memory (made ly stores 32) ≡ sets memory (replyAt ly) (due ly memory) =
-      ap (cutAfter ly memory) (played-made memory layout memory′ h a stores (λ j k. refl) 32 (omega arith))
-      ∙ all-replied ly memory in
-      bytes-agree (stored .memory) (cutAfter ly memory (made ly stores 32)) (replyAt ly) 32 (g .long)
-      (λ i k. g .same (replyAt ly + i) (simp (elsewhere (call .good) MR XS (omega arith) (omega arith) (λ q. omega arith) refl refl (replyAt ly + i)
-      (ends-within (ly .mr) (replyAt ly + i) (omega arith) (omega (arith, w .mail))))))
-      ∙ ap (replied ly) e
-      ∙ stored-there memory (replyAt ly) 32 (due ly memory) (length-due ly memory)
-      (omega (arith, w .mail-in, call .allowed .long))
+  cause-is =
+      ap (λ (x : State). cause ly (x .monitor) (all 33))
+      (before-there ∙ ap (λ (x : State). before ly rest x 32) first-left)
+      ∙ stopped .1 refl
+    where
+      before-there : before ly all (begin memory) 33 ≡ before ly rest (before ly all (begin memory) 1) 32
+      before-there =
+          in-parts ly all all rest (begin memory) 1 32 (λ i k. refl)
+          (λ i k. let q : 1 + i ≡ suc i = omega arith in ap all q) .left
 
   -- ---- as bytes
 
@@ -171,7 +150,8 @@ module _ (memory layout memory′ : List ℕ) (h : Bytes layout) (a : Attests me
       cases (ltb i 32)
       (λ t.
       let k = ltb-true i 32 t in
-      rw (stored-at i k) (played-addressed layout h (call .lies) memory i (omega arith)))
+      let e : rest i ≡ played ly memory i = simp t in
+      rw e (played-addressed layout h (call .lies) memory i (omega arith)))
       (λ t. simp t (record { pc = code-small layout h .0; cpuaddress = omega arith; dmaaddress = omega arith }))
 
   tells : (i : ℕ) → i < 34 → steps b i ≡ all i
@@ -193,7 +173,7 @@ module _ (memory layout memory′ : List ℕ) (h : Bytes layout) (a : Attests me
 
   traces : Traces memory layout b room (memoryAfter ly b memory) (roomAfter ly b memory room) cutTraced
   traces = record {
-    answered = simp checked (simp (counted, same 34 (omega arith) .counted, counts));
+    answered = simp checked (simp (counted, same 34 (omega arith) .counted, all-counted));
     memory-left = simp checked;
     room-left = simp checked;
   }
@@ -217,14 +197,12 @@ module _ (memory layout memory′ : List ℕ) (h : Bytes layout) (a : Attests me
   pub happens : Happens layout (trace b cutTraced) memory (memoryAfter ly b memory)
   happens = ((room, roomAfter ly b memory room, traces), counter-left)
 
-  left-by-bytes : memoryAfter ly b memory ≡ stored .memory
-  left-by-bytes =
+  pub cut-leaves : Uncounted ly memory (memoryAfter ly b memory)
+  cut-leaves =
+      let e : memoryAfter ly b memory ≡ before ly rest (released memory) 33 .memory =
       ap (λ (n : ℕ). before ly (steps b) (begin memory) n .memory) counted
-      ∙ ap (λ (x : State). x .memory) (same 34 (omega arith) .left)
-      ∙ left
-
-  pub cut-replied : replied ly (memoryAfter ly b memory) ≡ due ly memory
-  cut-replied = ap (replied ly) left-by-bytes ∙ replied-there
+      ∙ ap (λ (x : State). x .memory) (same 34 (omega arith) .left ∙ all-left) in
+      rw e rest-leaves
 
   pub cut-because : causeAt ly (steps b) (begin memory) 33 ≡ 4
   cut-because =

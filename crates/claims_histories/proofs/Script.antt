@@ -23,12 +23,10 @@ use Rattle.layout.proofs.Laws.{zero-outside}
 use Rattle.layout.proofs.Calls.{call-rest}
 use Rattle.layout.proofs.Placed.{Placed}
 use Rattle.steps.specs.declared.Step.{Step}
-use Rattle.rules.specs.declared.Monitor.{Monitor}
 use Rattle.steps.specs.Steps.{stepOf, flags, encode, Addressed}
 use Rattle.rules.specs.Rules.{cause, start}
-use Rattle.monitor.specs.Decisions.{next, decidedMemory}
+use Rattle.monitor.specs.Decisions.{next}
 use Rattle.steps.proofs.Laws.{flags-most, tells-step, clean-encode}
-use Rattle.effects.specs.Effects.{stored, storing, written}
 use Rattle.monitor.specs.declared.Traced.{Traced}
 use Rattle.monitor.specs.declared.Traced.the-variants as traced
 use Rattle.monitor.specs.Runs.{State, begin, before, resetting}
@@ -36,7 +34,7 @@ use Rattle.traces.specs.Traces.{stepSize, answerSize, count, stepBytes, steps}
 use Rattle.traces.specs.Traces.{mostSteps, unclean, traceCheck}
 use Rattle.monitor.specs.Promises.{Traces}
 use Rattle.monitor.specs.Settled.{traced-row-settled}
-use Rattle.board.specs.Memory.{challenge, replyAt}
+use Rattle.board.specs.Memory.{challenge}
 use Rattle.board.specs.Attestation.{due}
 use Rattle.board.specs.Promises.{Attests}
 use Rattle.board.proofs.Stores.{bytes-read}
@@ -184,7 +182,7 @@ module _ (memory layout memory′ : List ℕ) (h : Bytes layout) (a : Attests me
       keeps-memory ly (remembers ly rest (released memory) 64) (at 0) (before ly rest (released memory) 64 .memory)
       (rest-passes 64 (omega arith)) refl refl
       ∙ exact-visit layout memory′ rest (released memory) 64 h free-first a plays-rest
-      (played-none memory layout memory′ h a rest rest-played)
+      (played-none memory layout memory′ h a rest 64 (omega arith) rest-played)
 
   in-two : InParts ly all all rest (begin memory) 1 65
   in-two =

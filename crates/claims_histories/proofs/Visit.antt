@@ -1,6 +1,6 @@
 -- The claims about visits to the attestation code hold. Assumes nothing.
-use mathlib.Core.Path.{_≡_, refl, sym, ap, _∙_}
-use mathlib.Core.Logic.{_⊎_, inl, inr}
+use mathlib.Core.Path.{_≡_, refl, sym, ap, subst, _∙_}
+use mathlib.Core.Logic.{_≢_, _⊎_, inl, inr}
 use mathlib.Core.Bool.{Bool, true, false, not, _&&_, _||_, and-false, or-true}
 use mathlib.Core.List.{List}
 use Prim.Native.Nat.{ℕ, zero, suc, _+_, _-_, _≤_, _<_}
@@ -9,7 +9,7 @@ use native.Mathlib.Omega.{arith}
 use lib.Dec.{eqb, ltb}
 use lib.ListN.{length, getD, take, set, length-set}
 use lib.Seq.{sets, take-all, getD-set-same, getD-set-other}
-use borrow.Author.Tests.{eqb-true, eqb-false, eq-eqb, ltb-true, ltb-false, lt-ltb, le-ltb}
+use borrow.Author.Tests.{eqb-true, eqb-false, eq-eqb, ne-eqb, ltb-true, ltb-false, lt-ltb, le-ltb}
 use Rattle.notions.specs.Bytes.{Bytes}
 use Rattle.refusal.specs.declared.Answer.the-variants.{Done}
 use Rattle.notions.proofs.Tests.{cases, clash, neither, both}
@@ -37,8 +37,8 @@ use Rattle.board.proofs.Stores.{sets-more}
 use Rattle.board.proofs.Laws.{length-due, length-challenge}
 use Rattle.claims_monitor.specs.Traces.{crOrKr, remembers, causeAt}
 use Rattle.claims_histories.specs.Visit as claim
-use Rattle.claims_histories.specs.Visit.{Inside, Begins, Free, storeAt, storeByte, cutAfter}
-use Rattle.claims_histories.specs.Visit.{storesOut, made, Makes, SameOutside, Plays, writing, played}
+use Rattle.claims_histories.specs.Visit.{Inside, Begins, Free, storeAt, storeByte, cutAfter, storesOut, made}
+use Rattle.claims_histories.specs.Visit.{StoresNext, Makes, SameOutside, Plays, writing, played, inserted}
 use Rattle.claims_attestation.proofs.Accepts.{Accepts, accepts}
 
 -- ---- steps that pass
@@ -138,7 +138,7 @@ off-rom b g a (inr e) =
     elsewhere g CTR KR (omega arith) (omega arith) (λ q. omega arith) refl refl a e in
     simp (c, k)
 
-off-scratch : (b : List ℕ) → Good b → (a : ℕ) → mrOrCtr (layoutOf b) a → within (layoutOf b .xs) a ≡ false
+pub off-scratch : (b : List ℕ) → Good b → (a : ℕ) → mrOrCtr (layoutOf b) a → within (layoutOf b .xs) a ≡ false
 unfolding layoutOf
 off-scratch b g a (inl e) = elsewhere g MR XS (omega arith) (omega arith) (λ q. omega arith) refl refl a e
 off-scratch b g a (inr e) = elsewhere g CTR XS (omega arith) (omega arith) (λ q. omega arith) refl refl a e
@@ -367,25 +367,31 @@ allows : (l : Layout) (a : ℕ) → mrOrCtr l a → writable l a ≡ true
 allows l a (inl e) = simp (e, or-true)
 allows l a (inr e) = simp (e, or-true)
 
--- steps that are those of `played`
+-- m steps that are those of `played`
 module _ (memory layout memory′ : List ℕ) (h : Bytes layout) (a : Attests memory layout memory′ Done) (t : ℕ → Step)
-    (f : (i : ℕ) → i < 64 → t i ≡ played (layoutOf layout) memory i) where
+    (m : ℕ) (most : m ≤ 64) (f : (i : ℕ) → i < m → t i ≡ played (layoutOf layout) memory i) where
   abbrev ly : Layout
   ly = layoutOf layout
 
   accepting : Accepts memory layout memory′
   accepting = accepts memory layout memory′ h a
 
-  place : (i : ℕ) → i < 64 → mrOrCtr ly (storeAt ly i)
-  place i k = store-in ly (accepting .lies) i k
+  place : (i : ℕ) → i < m → mrOrCtr ly (storeAt ly i)
+  place i k = store-in ly (accepting .lies) i (omega arith)
 
-  played-out : (i : ℕ) → i < 64 → storesOut ly (t i) ≡ true
-  played-out i k = rw (f i k) (simp (off-scratch layout (accepting .good) (storeAt ly i) (place i k)))
+  -- they store outside XS and not into it
+  played-out : (i : ℕ) → i < m → (storesOut ly (t i) ≡ true) × (cpuWritesIn (ly .xs) (t i) ≡ false)
+  played-out i k =
+      let o = off-scratch layout (accepting .good) (storeAt ly i) (place i k) in
+      (rw (f i k) (simp o), rw (f i k) (simp o))
 
-  pub played-made : (n : ℕ) → n ≤ 64 → made ly t n ≡ n
-  played-made n e = made-each ly t n (λ i k. played-out i (omega arith))
+  pub played-made : (n : ℕ) → n ≤ m → made ly t n ≡ n
+  played-made n e = made-each ly t n (λ i k. played-out i (omega arith) .0)
 
-  played-inside : (i : ℕ) → i < 64 → Inside ly (t i)
+  pub played-none : (i : ℕ) → i < m → cpuWritesIn (ly .xs) (t i) ≡ false
+  played-none i k = played-out i k .1
+
+  played-inside : (i : ℕ) → i < m → Inside ly (t i)
   played-inside i k =
       let c = code-ends layout (accepting .good) in
       rw (f i k) (record {
@@ -395,43 +401,146 @@ module _ (memory layout memory′ : List ℕ) (h : Bytes layout) (a : Attests me
         writes = λ e. allows ly (storeAt ly i) (place i k);
       })
 
-  played-begins : (n : ℕ) → n ≤ 64 → Begins ly t n
-  played-begins n e = record {
-    enters = ap (λ (s : Step). s .pc) (f 0 (omega arith));
-    each = λ i k. played-inside i (omega arith);
-  }
-
-  pub played-makes : (n : ℕ) → n ≤ 64 → Makes ly memory t n
-  played-makes n e = record {
-    begins = played-begins n e;
+  pub played-makes : 0 < m → Makes ly memory t m
+  played-makes some = record {
+    begins = record { enters = ap (λ (s : Step). s .pc) (f 0 some); each = played-inside };
     next = λ i k o.
-        let g : i < 64 = omega arith in
         let q = played-made i (omega arith) in
         record {
           more = omega arith;
-          address = ap (λ (s : Step). s .cpuaddress) (f i g) ∙ ap (storeAt ly) (sym q);
-          byte = ap (λ (s : Step). s .cpudata) (f i g) ∙ ap (storeByte ly memory) (sym q);
+          address = ap (λ (s : Step). s .cpuaddress) (f i k) ∙ ap (storeAt ly) (sym q);
+          byte = ap (λ (s : Step). s .cpudata) (f i k) ∙ ap (storeByte ly memory) (sym q);
         };
   }
 
-  pub played-plays : Plays ly memory t 64
-  played-plays = record {
-    visit = record {
-      some = omega arith;
-      begins = played-begins 64 (omega arith);
-      ends = ap (λ (s : Step). s .pc) (f 63 (omega arith));
-    };
-    makes = played-makes 64 (omega arith);
-    all = played-made 64 (omega arith);
-  }
-
-  -- they store nothing into XS
-  pub played-none : (i : ℕ) → i < 64 → cpuWritesIn (ly .xs) (t i) ≡ false
-  played-none i k = rw (f i k) (simp (off-scratch layout (accepting .good) (storeAt ly i) (place i k)))
+pub played-plays : (memory layout memory′ : List ℕ) → Bytes layout → Attests memory layout memory′ Done → (t : ℕ → Step)
+    → ((i : ℕ) → i < 64 → t i ≡ played (layoutOf layout) memory i) → Plays (layoutOf layout) memory t 64
+played-plays memory layout memory′ h a t f =
+    let makes = played-makes memory layout memory′ h a t 64 (omega arith) f (omega arith) in
+    record {
+      visit = record {
+        some = omega arith;
+        begins = makes .begins;
+        ends = ap (λ (s : Step). s .pc) (f 63 (omega arith));
+      };
+      makes = makes;
+      all = played-made memory layout memory′ h a t 64 (omega arith) f 64 (omega arith);
+    }
 
 pub can-be-played : claim.CanBePlayed
 can-be-played memory layout memory′ h a =
     played-plays memory layout memory′ h a (played (layoutOf layout) memory) (λ i k. refl)
+
+-- ---- a step put between
+
+module _ (t : ℕ → Step) (k : ℕ) (s : Step) where
+  abbrev with : ℕ → Step
+  with = inserted t k s
+
+  with-before : (i : ℕ) → i < k → with i ≡ t i
+  with-before i h = simp (lt-ltb i k h)
+
+  with-there : with k ≡ s
+  with-there = simp (le-ltb k k (omega arith), eq-eqb k k refl)
+
+  with-behind : (i : ℕ) → k ≤ i → with (suc i) ≡ t i
+  with-behind i h =
+      let q : suc i ≢ k = λ e. omega arith in
+      let d : suc i - 1 ≡ i = omega arith in
+      simp (le-ltb (suc i) k (omega arith), ne-eqb (suc i) k q, d)
+
+-- i is before k, at k, or behind it
+place-of : (k i : ℕ) → (i < k) ⊎ (i ≡ k) ⊎ ((j : ℕ) × (i ≡ suc j) × (k ≤ j))
+place-of k i =
+    cases (ltb i k) (λ e. inl (ltb-true i k e))
+    (λ e.
+    let h = ltb-false i k e in
+    cases (eqb i k) (λ u. inr (inl (eqb-true i k u)))
+    (λ u. let c = eqb-false i k u in inr (inr (i - 1, omega arith, omega arith))))
+
+-- a step that stores what the next of another trace does
+next-so : (l : Layout) (memory : List ℕ) (t u : ℕ → Step) (i j : ℕ) → u i ≡ t j → made l u i ≡ made l t j
+    → StoresNext l memory t j → StoresNext l memory u i
+next-so l memory t u i j e f q = record {
+  more = subst (λ (n : ℕ). n < 64) (sym f) (q .more);
+  address = ap (λ (s : Step). s .cpuaddress) e ∙ q .address ∙ ap (storeAt l) (sym f);
+  byte = ap (λ (s : Step). s .cpudata) e ∙ q .byte ∙ ap (storeByte l memory) (sym f);
+}
+
+module _ (l : Layout) (memory : List ℕ) (t : ℕ → Step) (n k : ℕ) (s : Step) (plays : Plays l memory t n) (some : 0 < k)
+    (h : k < n) (inside : Inside l s) (none : storesOut l s ≡ false) where
+  abbrev u : ℕ → Step
+  u = inserted t k s
+
+  out-so : (i j : ℕ) → u i ≡ t j → storesOut l (u i) ≡ storesOut l (t j)
+  out-so i j e = ap (storesOut l) e
+
+  -- as many are made
+  made-so : (i j : ℕ) → u i ≡ t j → made l u i ≡ made l t j → made l u (suc i) ≡ made l t (suc j)
+  unfolding made
+  made-so i j e f = simp (out-so i j e, f)
+
+  made-before : (i : ℕ) → i ≤ k → made l u i ≡ made l t i
+  made-before zero e = made-none l u ∙ sym (made-none l t)
+  made-before (suc i) e = made-so i i (with-before t k s i e) (made-before i (omega arith))
+
+  made-behind : (d : ℕ) → made l u (suc (k + d)) ≡ made l t (k + d)
+  made-behind zero =
+      let q : k + 0 ≡ k = omega arith in
+      rw q (made-same l u k (ap (storesOut l) (with-there t k s) ∙ none) ∙ made-before k (omega arith))
+  made-behind (suc d) =
+      let q : k + suc d ≡ suc (k + d) = omega arith in
+      rw q (made-so (suc (k + d)) (k + d) (with-behind t k s (k + d) (omega arith)) (made-behind d))
+
+  made-later : (i : ℕ) → k ≤ i → made l u (suc i) ≡ made l t i
+  made-later i e =
+      let q : i ≡ k + (i - k) = omega arith in
+      rw q (made-behind (i - k))
+
+  begun : Begins l u (suc n)
+  begun = record {
+    enters = ap (λ (r : Step). r .pc) (with-before t k s 0 some) ∙ plays .visit .begins .enters;
+    each = λ i e.
+        elim (place-of k i) [
+          | inl q ↦ subst (Inside l) (sym (with-before t k s i q)) (plays .visit .begins .each i (omega arith))
+          | inr (inl q) ↦ subst (λ (j : ℕ). Inside l (u j)) (sym q) (subst (Inside l) (sym (with-there t k s)) inside)
+          | inr (inr (j, q, g)) ↦
+              subst (λ (m : ℕ). Inside l (u m)) (sym q)
+              (subst (Inside l) (sym (with-behind t k s j g)) (plays .visit .begins .each j (omega arith)))
+        ];
+  }
+
+  follows : (i : ℕ) → i < suc n → storesOut l (u i) ≡ true → StoresNext l memory u i
+  follows i e o =
+      elim (place-of k i) [
+        | inl q ↦
+            let w = with-before t k s i q in
+            next-so l memory t u i i w (made-before i (omega arith))
+            (plays .makes .next i (omega arith) (sym (out-so i i w) ∙ o))
+        | inr (inl q) ↦ clash (storesOut l (u i)) o (ap (λ (j : ℕ). storesOut l (u j)) q
+            ∙ ap (storesOut l) (with-there t k s) ∙ none)
+        | inr (inr (j, q, g)) ↦
+            let w = ap u q ∙ with-behind t k s j g in
+            next-so l memory t u i j w (ap (made l u) q ∙ made-later j g)
+            (plays .makes .next j (omega arith) (sym (out-so i j w) ∙ o))
+      ]
+
+  paused : Plays l memory u (suc n)
+  paused =
+      let q : suc n - 1 ≡ suc (n - 1) = omega arith in
+      record {
+        visit = record {
+          some = omega arith;
+          begins = begun;
+          ends = ap (λ (i : ℕ). u i .pc) q ∙ ap (λ (r : Step). r .pc) (with-behind t k s (n - 1) (omega arith))
+              ∙ plays .visit .ends;
+        };
+        makes = record { begins = begun; next = follows };
+        all = made-later n (omega arith) ∙ plays .all;
+      }
+
+pub may-pause : claim.MayPause
+may-pause = paused
 
 -- ---- the attestation code's stores into CTR
 

@@ -1,4 +1,5 @@
 pub mod History
-pub mod Limits
 pub mod Visit
+pub mod Cut
 pub mod Script
+pub mod Limits

@@ -4,10 +4,8 @@ use mathlib.Core.Path.{_≡_}
 use mathlib.Core.Bool.{true, false}
 use mathlib.Core.List.{List, [], _∷_, _++_}
 use Prim.Native.Nat.{ℕ, zero, suc}
-use lib.Dec.{ltb}
 use lib.ListN.{length, take, drop}
 use Rattle.notions.specs.Bytes.{Bytes}
-use Rattle.notions.specs.Choice.{pick}
 use Rattle.refusal.specs.declared.Answer.{Answer}
 use Rattle.refusal.specs.declared.Answer.the-variants.{Done}
 use Rattle.layout.specs.declared.Layout.{Layout}
@@ -26,7 +24,7 @@ use Rattle.claims_monitor.specs.Marked.{pageBytes, at, interrupted}
 use Rattle.claims_monitor.specs.Traces.{causeAt}
 use Rattle.claims_attestation.specs.Demand2.{Agrees}
 use Rattle.claims_histories.specs.History.{trace, History, Accepted}
-use Rattle.claims_histories.specs.Visit.{played}
+use Rattle.claims_histories.specs.Cut.{playedTo}
 use Rattle.claims_histories.specs.Script.{encoded}
 
 -- ---- the counter is kept
@@ -78,7 +76,7 @@ pub record PageMoved : Type 0 where
 -- the visit of an accepted call, cut: a step at PC 0, the 32 stores of the reply, and an interrupt in CR
 abbrev pub cutSteps : Layout → List ℕ → ℕ → Step
 cutSteps l memory zero = at 0
-cutSteps l memory (suc i) = pick (ltb i 32) (played l memory i) (interrupted (l .cr .lo))
+cutSteps l memory (suc i) = playedTo l memory 32 (interrupted (l .cr .lo)) i
 
 abbrev pub cutTrace : Layout → List ℕ → List ℕ
 cutTrace l memory = encoded (cutSteps l memory) 34

@@ -149,6 +149,16 @@ CanBePlayed =
     (memory layout memory′ : List ℕ) → Bytes layout → Attests memory layout memory′ Done
     → Plays (layoutOf layout) memory (played (layoutOf layout) memory) 64
 
+-- a trace with one more step s, which is step k
+abbrev pub inserted : (ℕ → Step) → ℕ → Step → ℕ → Step
+inserted t k s i = pick (ltb i k) (t i) (pick (eqb i k) s (t (i - 1)))
+
+-- between any two steps of such a visit may stand one more, in CR, that stores nothing outside XS
+abbrev pub MayPause : Type 0
+MayPause =
+    (l : Layout) (memory : List ℕ) (t : ℕ → Step) (n k : ℕ) (s : Step) → Plays l memory t n → 0 < k → k < n
+    → Inside l s → storesOut l s ≡ false → Plays l memory (inserted t k s) (suc n)
+
 -- ---- any other store of the attestation code into CTR
 
 -- at CR's lowest address it may write any v to an address of CTR, by rule 6, and v then stands there.

@@ -1,5 +1,5 @@
 -- Run files, proved. Assumes nothing.
-use mathlib.Core.Path.{_≡_, ap, sym, subst, _∙_}
+use mathlib.Core.Path.{_≡_, refl, ap, sym, subst, _∙_}
 use mathlib.Core.Logic.{_≢_, _⊎_, inl, inr}
 use mathlib.Core.Bool.{not, _||_}
 use mathlib.Core.List.{List}
@@ -12,6 +12,7 @@ use Rattle.notions.specs.Choice.{pick}
 use Rattle.refusal.specs.Answers.{refusedAt, andThen, told, afterCall}
 use Rattle.refusal.specs.Numbers.{memorySize, layoutSize, regionReversed, regionSize, zeroInCode, regionsShare}
 use Rattle.refusal.specs.Numbers.{traceSize, roomSize, stepNotZero, contents, segment, fileSize}
+use Rattle.refusal.specs.declared.Refusal.{Refusal}
 use Rattle.refusal.specs.declared.Answer.{Answer}
 use Rattle.refusal.specs.declared.Answer.the-variants as call
 use Rattle.notions.proofs.Tests.{cases}
@@ -22,25 +23,34 @@ use Rattle.layout.specs.Calls.{callCheck, memoryBytes}
 use Rattle.layout.proofs.Calls.{call-rest}
 use Rattle.monitor.specs.declared.Totals.{Totals}
 use Rattle.monitor.specs.declared.Traced.{Traced}
-use Rattle.monitor.specs.declared.Traced.the-variants.{Judged}
+use Rattle.monitor.specs.declared.Traced.the-variants.{Judged, Refused}
 use Rattle.traces.specs.Traces.{stepSize, answerSize, count, steps}
 use Rattle.monitor.specs.Runs.{begin, said, resetting, roomAfter, totals}
 use Rattle.traces.specs.Traces.{mostSteps, firstUnclean, traceCheck}
 use Rattle.monitor.specs.Promises.{totalsValues, tracedRow, Traces}
 use Rattle.monitor.specs.Settled.{traced-row-settled}
 use Rattle.monitor.proofs.Checks.{traced-judged, traced-refused}
-use Rattle.file_contents.specs.Contents.{layoutEntry, memoryEntry, traceEntry, largestFile, entries, firstFailing, fileCheck, body}
+use Rattle.file_contents.specs.Contents.{layoutEntry, memoryEntry, traceEntry, largestFile, entries, firstFailing}
+use Rattle.file_contents.specs.Contents.{fileCheck, body}
 use Rattle.file_segments.specs.Segments.{segments, firstWrong, segmentCheck}
 use Rattle.runfile.specs.Promises.{fileLayout, fileMemory, fileTrace, fileTotals, bodiesCheck, judgeCheck}
 use Rattle.file_contents.proofs.Entries.{sound, layout-part}
 use Rattle.runfile.proofs.Files.{admitted}
 use Rattle.file_segments.proofs.Described as D
-use Rattle.report.specs.Text.{judgedText}
+use Rattle.report.specs.Text.{printed, judgedText}
 use Rattle.report.proofs.Laws.{judged-same}
+use Rattle.claims_files.proofs.Parts.{segments-end, parts, passes}
+use Rattle.claims_files.proofs.Bytes.{changed, layout-same, trace-same, judge-check-same, memories-agree}
+use Rattle.claims_files.proofs.Bytes.{same-form, same-bytes, either-file}
 use Rattle.claims_files.specs.Files as claim
-use Rattle.claims_files.specs.Files.{Names}
+use Rattle.claims_files.specs.Files.{Names, SameFile, SameBytes}
 use Rattle.claims_monitor.proofs.Demand3.{demand-3-runs}
 use Rattle.claims_monitor.proofs.Demand3Calls.{blank-same, count-same, demand-3-calls}
+
+-- ---- the parts of a file
+
+pub bodies : claim.Bodies
+bodies f = (parts f, passes f)
 
 -- ---- the described memory
 
@@ -55,6 +65,7 @@ beside b k a f =
 pub described-so : claim.DescribedSo
 described-so b e = record {
   long = D.length-described b;
+  whole = segments-end b e;
   once = λ j k a h l n m. omega (arith, D.ordered b e j k h l, n .1, m .0);
   named = D.named b e;
   unnamed = λ a h f. D.unnamed b e a h (λ k l. beside b k a (f k l));
@@ -66,7 +77,8 @@ pub file-is-trace : claim.FileIsTrace
 file-is-trace file memory room memory′ room′ t j =
     let d = traced-judged (judgeCheck file memory room) t (fileTotals file) (j .answered) in
     let p = admitted file memory room (d .0) in
-    let e : callCheck (fileMemory file) (body file layoutEntry) (traceCheck (fileTrace file) (length room)) ≡ call.Done =
+    let e
+    : callCheck (fileMemory file) (body file layoutEntry) (traceCheck (fileTrace file) (length room)) ≡ call.Done =
     call-rest (fileMemory file) (body file layoutEntry) (traceCheck (fileTrace file) (length room))
     (D.length-described (body file memoryEntry)) (p .layout) ∙ p .trace in
     record {
@@ -99,7 +111,7 @@ memory-unseen file x y room x′ room₁ y′ room₂ r q e j k =
           (simp (d .0) at (j .memory-left)) ∙ sym (simp (sym c ∙ d .0) at (k .memory-left)),
     )
 
--- ---- two files that differ in key and scratch
+-- ---- two files that hold the same but for key and scratch
 
 judged-totals : (t u : Totals) → _≡_ {A = Traced} (Judged t) (Judged u) → t ≡ u
 judged-totals t u e = cc
@@ -115,8 +127,12 @@ demand-3-files f g x y room x′ y′ room₁ room₂ t u s j k =
     (Judged t) (Judged u) (s .memories) (s .traces) p q in
     record { told = judged-totals t u (d .told); rooms = d .rooms; memories = d .memories }
 
-pub prints-the-same : claim.PrintsTheSame
-prints-the-same f g x y room s a b =
+-- the text of a file that is judged
+abbrev textOf : List ℕ → List ℕ
+textOf f = judgedText (said (fileLayout f) (steps (fileTrace f)) (begin (fileMemory f))) (fileTotals f)
+
+text-same : (f g : List ℕ) → SameFile f g → textOf f ≡ textOf g
+text-same f g s =
     let l = fileLayout f in
     let h = fileTrace f in
     let c = fileTrace g in
@@ -128,14 +144,68 @@ prints-the-same f g x y room s a b =
     let e : fileTotals f ≡ totals l c (fileMemory g) =
     ap (λ (n : ℕ). record { steps = count h; resets = n }) (u .counted)
     ∙ ap (λ (n : ℕ). record { steps = n; resets = resetting l (steps c) z n }) (count-same l h c (s .traces)) in
-    let printed : List ℕ → List ℕ =
+    let shows : List ℕ → List ℕ =
     λ bytes. judgedText (said (layoutOf bytes) (steps c) z) (totals (layoutOf bytes) c (fileMemory g)) in
-    let d : judgedText (said l (steps h) w) (fileTotals f)
-    ≡ judgedText (said (fileLayout g) (steps c) z) (fileTotals g) =
     judged-same (said l (steps h) w) (said l (steps c) z) (fileTotals f) (u .each)
     ∙ ap (judgedText (said l (steps c) z)) e
-    ∙ ap printed (s .layouts) in
-    simp (a, b) d
+    ∙ ap shows (s .layouts)
+
+pub prints-the-same : claim.PrintsTheSame
+prints-the-same f g x y room s a b = simp (a, b) (text-same f g s)
+
+-- ---- two files with the same bytes but for key and scratch
+
+same-file : (f g : List ℕ) → SameBytes f g → segmentCheck (body f memoryEntry) ≡ call.Done → SameFile f g
+same-file f g s e = record { layouts = layout-same f g s; memories = memories-agree f g s e; traces = trace-same f g s }
+
+module _ (f g x y room : List ℕ) (s : SameBytes f g) (e : length x ≡ length y) where
+  holds-the-same : judgeCheck f x room ≡ call.Done → SameFile f g
+  holds-the-same d = same-file f g s (admitted f x room d .segments)
+
+  not-one-alone : (v : Refusal) → judgeCheck f x room ≡ call.Done → judgeCheck g y room ≡ call.Refused v → ⊥
+  not-one-alone v d h = refuses-none (λ n. ⊥) v (sym d ∙ judge-check-same f g s x y room e ∙ h)
+
+pub demand-3-bytes : claim.Demand3Bytes
+demand-3-bytes f g x y room x′ y′ room₁ room₂ (Judged t) (Judged u) s e j k =
+    let d = traced-judged (judgeCheck f x room) t (fileTotals f) (j .answered) in
+    let c = demand-3-files f g x y room x′ y′ room₁ room₂ t u (holds-the-same f g x y room s e (d .0)) j k in
+    (ap Judged (c .told), c .rooms, λ v h. c .memories)
+demand-3-bytes f g x y room x′ y′ room₁ room₂ (Judged t) (Refused w) s e j k =
+    let d = traced-judged (judgeCheck f x room) t (fileTotals f) (j .answered) in
+    let i = traced-refused (judgeCheck g y room) w (fileTotals g) (k .answered) in
+    absurd (not-one-alone f g x y room s e w (d .0) i)
+demand-3-bytes f g x y room x′ y′ room₁ room₂ (Refused v) (Judged u) s e j k =
+    let h = traced-refused (judgeCheck f x room) v (fileTotals f) (j .answered) in
+    let d = traced-judged (judgeCheck g y room) u (fileTotals g) (k .answered) in
+    absurd (not-one-alone g f y x room (either-file f g s) (sym e) v (d .0) h)
+demand-3-bytes f g x y room x′ y′ room₁ room₂ (Refused v) (Refused w) s e j k =
+    let h = traced-refused (judgeCheck f x room) v (fileTotals f) (j .answered) in
+    let i = traced-refused (judgeCheck g y room) w (fileTotals g) (k .answered) in
+    let z : _≡_ {A = Answer} (call.Refused v) (call.Refused w) = sym h ∙ judge-check-same f g s x y room e ∙ i in (
+      ap Refused (cc),
+      (simp h at (j .room-left)) ∙ sym (simp i at (k .room-left)),
+      λ t d. absurd (let a : _≡_ {A = ℕ} 0 1 = cc in omega arith),
+    )
+
+text-after : (a b : Answer) (v w : List ℕ) → a ≡ b → (a ≡ call.Done → v ≡ w) → printed a v ≡ printed b w
+text-after call.Done b v w e f = simp (sym e) (f refl)
+text-after (call.Refused r) b v w e f = simp (sym e)
+
+pub prints-alike : claim.PrintsAlike
+prints-alike f g x y room s e =
+    text-after (judgeCheck f x room) (judgeCheck g y room) (textOf f) (textOf g) (judge-check-same f g s x y room e)
+    (λ d. text-same f g (holds-the-same f g x y room s e d))
+
+-- ---- which files these are
+
+pub hidden-is-free : claim.HiddenIsFree
+hidden-is-free = changed
+
+pub same-bytes-exact : claim.SameBytesExact
+same-bytes-exact f g c e = (λ s. (same-form f g s, same-file f g s e), λ s. same-bytes f g c e (s .0) (s .1))
+
+pub either-file-tells : claim.EitherFileTells
+either-file-tells = either-file
 
 -- ---- one that is refused
 

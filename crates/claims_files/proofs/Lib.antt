@@ -1,1 +1,4 @@
+pub mod Parts
+pub mod Segments
+pub mod Bytes
 pub mod Files

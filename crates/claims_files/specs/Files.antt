@@ -1,22 +1,42 @@
 -- Run files: what a file that is judged comes to. Claims; proofs/Files.antt has the proofs. Assumes nothing.
 use mathlib.Core.Path.{_≡_}
-use mathlib.Core.Logic.{_≢_}
-use mathlib.Core.List.{List}
+use mathlib.Core.Bool.{Bool, true, _||_}
+use mathlib.Core.Logic.{_≢_, _↔_, _⊎_}
+use mathlib.Core.List.{List, _++_}
 use Prim.Native.Nat.{ℕ, _+_, _≤_, _<_}
-use lib.ListN.{length, getD}
+use lib.ListN.{length, getD, take, set}
 use Rattle.refusal.specs.Numbers.{layoutSize}
 use Rattle.refusal.specs.declared.Refusal.{Refusal}
 use Rattle.refusal.specs.declared.Answer.the-variants.{Done}
+use Rattle.layout.specs.declared.Layout.{Layout}
+use Rattle.layout.specs.Regions.{within}
+use Rattle.layout.specs.Layouts.{layoutBytes}
 use Rattle.layout.specs.Calls.{memoryBytes}
 use Rattle.monitor.specs.declared.Totals.{Totals}
 use Rattle.monitor.specs.declared.Traced.{Traced}
 use Rattle.monitor.specs.declared.Traced.the-variants.{Judged, Refused}
 use Rattle.monitor.specs.Promises.{Traces}
-use Rattle.file_contents.specs.Contents.{layoutEntry, body}
+use Rattle.file_contents.specs.Contents.{largestFile, contentsSize, entries, layoutEntry, memoryEntry, traceEntry}
+use Rattle.file_contents.specs.Contents.{offset, size, begins, fileCheck, body}
 use Rattle.file_segments.specs.Segments.{headSize, startAt, sizeAt, place, segments, segmentCheck, described}
 use Rattle.runfile.specs.Promises.{fileLayout, fileMemory, fileTrace, judgeCheck, Judges}
 use Rattle.report.specs.Text.{fileText}
-use Rattle.claims_monitor.specs.Demand3.{Agree, SameTrace, SameCall}
+use Rattle.claims_monitor.specs.Demand3.{Agree, secret, SameTrace, SameCall}
+
+-- ---- the parts of a file
+
+-- its contents and the three bodies, one behind another, and nothing else
+pub record Parts (f : List ℕ) : Type 0 where
+  pub most : length f ≤ largestFile
+  pub all : f ≡ take contentsSize f ++ body f layoutEntry ++ body f memoryEntry ++ body f traceEntry
+  -- each body begins where its entry says, and is as long as that says
+  pub there : (k : ℕ) → k < entries → offset f k ≡ begins f k
+  pub long : (k : ℕ) → k < entries → length (body f k) ≡ size f k
+  pub layout : length (body f layoutEntry) ≡ layoutBytes
+
+-- the contents of exactly these files pass
+abbrev pub Bodies : Type 0
+Bodies = (f : List ℕ) → (fileCheck f ≡ Done) ↔ Parts f
 
 -- ---- the memory that segments describe, byte by byte
 
@@ -26,6 +46,8 @@ Names b k a = (startAt b (place b k) ≤ a) × (a < startAt b (place b k) + size
 
 pub record Described (b : List ℕ) : Type 0 where
   pub long : length (described b) ≡ memoryBytes
+  -- the segments reach the body's end
+  pub whole : place b (segments b) ≡ length b
   -- no address is named twice
   pub once : (j k a : ℕ) → j < k → k < segments b → Names b j a → Names b k a → ⊥
   -- a named byte is the segment's
@@ -53,7 +75,7 @@ MemoryUnseen =
     → Judges file x room x′ room₁ r → Judges file y room y′ room₂ q
     → (r ≡ q) × (room₁ ≡ room₂) × ((t : Totals) → r ≡ Judged t → x′ ≡ y′)
 
--- ---- two files that differ in key and scratch
+-- ---- two files that hold the same but for key and scratch
 
 -- demand 3 of files: one layout, memories that agree outside KR and XS, traces that are the same but for bytes stored
 -- into the scratch
@@ -73,6 +95,76 @@ abbrev pub PrintsTheSame : Type 0
 PrintsTheSame =
     (f g x y room : List ℕ) → SameFile f g → judgeCheck f x room ≡ Done → judgeCheck g y room ≡ Done
     → fileText f x room ≡ fileText g y room
+
+-- ---- two files with the same bytes but for key and scratch
+
+-- byte k of a file is byte p of the body of entry e
+abbrev pub ByteOf : List ℕ → ℕ → ℕ → ℕ → Type 0
+ByteOf f e k p = (p < length (body f e)) × (k ≡ begins f e + p)
+
+-- the address is in KR or XS
+abbrev pub guarded : Layout → ℕ → Bool
+guarded l a = within (l .kr) a || within (l .xs) a
+
+-- byte p of a memory body is what a segment holds for such an address: so many bytes behind its start and length
+pub record KeyOrScratch (l : Layout) (b : List ℕ) (p : ℕ) : Type 0 where
+  pub segment : ℕ
+  pub byte : ℕ
+  pub counted : segment < segments b
+  pub held : byte < sizeAt b (place b segment)
+  pub stands : p ≡ place b segment + headSize + byte
+  pub hides : guarded l (startAt b (place b segment) + byte) ≡ true
+
+-- byte k of a file is hidden: it is such a byte, or one that the trace stores into the scratch. That is none of the
+-- contents, of the layout or of a segment's start and length
+abbrev pub Hidden : List ℕ → ℕ → Type 0
+Hidden f k =
+    ((p : ℕ) × ByteOf f memoryEntry k p × KeyOrScratch (fileLayout f) (body f memoryEntry) p)
+    ⊎ ((p : ℕ) × ByteOf f traceEntry k p × (secret (fileLayout f) (fileTrace f) p ≡ true))
+
+-- two files of one length, with the same byte at every place that is not hidden
+pub record SameBytes (f g : List ℕ) : Type 0 where
+  pub long : length f ≡ length g
+  pub same : (k : ℕ) → (Hidden f k → ⊥) → getD f k 0 ≡ getD g k 0
+
+-- demand 3 of files by their bytes, whether they are refused or not: both get the same answer and leave the same answer
+-- room, and if they are judged, the memories that they leave differ at most in KR and XS
+abbrev pub Demand3Bytes : Type 0
+Demand3Bytes =
+    (f g x y room x′ y′ room₁ room₂ : List ℕ) (r q : Traced) → SameBytes f g → length x ≡ length y
+    → Judges f x room x′ room₁ r → Judges g y room y′ room₂ q
+    → (r ≡ q) × (room₁ ≡ room₂) × ((t : Totals) → r ≡ Judged t → Agree (fileLayout f) x′ y′)
+
+-- and the same text is printed of both
+abbrev pub PrintsAlike : Type 0
+PrintsAlike = (f g x y room : List ℕ) → SameBytes f g → length x ≡ length y → fileText f x room ≡ fileText g y room
+
+-- ---- which files these are
+
+-- a file, and the same with any byte at a hidden place
+abbrev pub HiddenIsFree : Type 0
+HiddenIsFree = (f : List ℕ) (k v : ℕ) → Hidden f k → SameBytes f (set f k v) × (getD (set f k v) k 0 ≡ v)
+
+-- two memory bodies with the same start and length of each segment
+abbrev pub SameHeads : List ℕ → List ℕ → Type 0
+SameHeads b c = (j i : ℕ) → j < segments b → i < headSize → getD b (place b j + i) 0 ≡ getD c (place b j + i) 0
+
+-- two files of one form: one length, the same contents, and the same start and length of each segment
+pub record SameForm (f g : List ℕ) : Type 0 where
+  pub long : length f ≡ length g
+  pub contents : take contentsSize f ≡ take contentsSize g
+  pub heads : SameHeads (body f memoryEntry) (body g memoryEntry)
+
+-- if a file's contents and segments pass, exactly the files of its form that hold the same but for key and scratch have
+-- the same bytes: nothing more is hidden, and nothing less
+abbrev pub SameBytesExact : Type 0
+SameBytesExact =
+    (f g : List ℕ) → fileCheck f ≡ Done → segmentCheck (body f memoryEntry) ≡ Done
+    → SameBytes f g ↔ (SameForm f g × SameFile f g)
+
+-- it does not matter which of the two files says where the hidden places are
+abbrev pub EitherFileTells : Type 0
+EitherFileTells = (f g : List ℕ) → SameBytes f g → SameBytes g f
 
 -- ---- one that is refused
 

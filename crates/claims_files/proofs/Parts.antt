@@ -1,0 +1,129 @@
+-- The parts of a file, and the end of its segments. Assumes nothing.
+use mathlib.Core.Path.{_≡_, ap, sym, _∙_}
+use mathlib.Core.Bool.{Bool, false}
+use mathlib.Core.List.{List, _++_}
+use Prim.Native.Nat.{ℕ, zero, suc, _+_, _≤_, _<_}
+use native.Mathlib.Omega.{arith}
+use lib.Dec.{ltb, leb}
+use lib.ListN.{length, take, length-append, length-take, length-drop}
+use lib.Seq.{take-add, take-all}
+use borrow.Author.Tests.{ltb-true, ltb-false, leb-true, le-ltb, eq-eqb}
+use Rattle.notions.specs.First.{first}
+use Rattle.notions.proofs.Tests.{cases}
+use Rattle.notions.proofs.First.{first-found, none-found, found-none}
+use Rattle.refusal.specs.declared.Answer.the-variants.{Done}
+use Rattle.refusal.proofs.Order.{done-passed}
+use Rattle.layout.specs.Layouts.{layoutBytes}
+use Rattle.file_contents.specs.Contents.{largestFile, contentsSize, entries, layoutEntry, memoryEntry, traceEntry}
+use Rattle.file_contents.specs.Contents.{size, begins, entryFails, firstFailing, fileCheck, body}
+use Rattle.file_contents.proofs.Entries.{sound, Right, right}
+use Rattle.file_segments.specs.Segments.{place, segments, segmentCheck}
+use Rattle.file_segments.proofs.Described as D
+use Rattle.claims_files.specs.Files.{Parts}
+
+-- ---- the end of the segments
+
+place-grows : (b : List ℕ) (k : ℕ) → k ≤ place b k
+unfolding place
+place-grows b zero = omega arith
+place-grows b (suc k) = omega (arith, place-grows b k)
+
+reaches : (b : List ℕ) → length b ≤ place b (segments b)
+unfolding segments
+reaches b =
+    let past : ℕ → Bool = λ k. leb (length b) (place b k) in
+    let s = first (length b) past in
+    cases (ltb s (length b))
+    (λ e. leb-true (length b) (place b s) (first-found (length b) past (ltb-true s (length b) e)))
+    (λ e. omega (arith, ltb-false s (length b) e, place-grows b s))
+
+keeps-within : (b : List ℕ) → segmentCheck b ≡ Done → (n : ℕ) → n ≤ segments b → place b n ≤ length b
+unfolding place
+keeps-within b e zero h = omega arith
+keeps-within b e (suc n) h = D.all-right b e n h .contents
+
+pub segments-end : (b : List ℕ) → segmentCheck b ≡ Done → place b (segments b) ≡ length b
+segments-end b e = omega (arith, reaches b, keeps-within b e (segments b) (omega arith))
+
+-- ---- a file that passes
+
+none-fails : (f : List ℕ) → fileCheck f ≡ Done → (k : ℕ) → k < entries → entryFails f k ≡ false
+unfolding fileCheck firstFailing
+none-fails f e k h =
+    let p = done-passed (ltb largestFile (length f)) _ _ e in
+    let q = done-passed (ltb (firstFailing f) entries) _ Done (p .1) in
+    cases (ltb (length f) contentsSize) (λ t. absurd (omega (arith, ltb-false 0 entries (simp t at (q .0)))))
+    (λ t. none-found entries (entryFails f) (simp t at (q .0)) k h)
+
+-- where the bodies end
+abbrev end : List ℕ → ℕ
+end f = contentsSize + size f layoutEntry + size f memoryEntry + size f traceEntry
+
+in-parts : (f : List ℕ) → length f ≤ end f
+    → f ≡ take contentsSize f ++ body f layoutEntry ++ body f memoryEntry ++ body f traceEntry
+unfolding body begins
+in-parts f h =
+    let a = contentsSize + size f layoutEntry in
+    sym (take-all (end f) f h)
+    ∙ take-add (a + size f memoryEntry) (size f traceEntry) f
+    ∙ ap (λ (p : List ℕ). p ++ body f traceEntry)
+    (take-add a (size f memoryEntry) f
+    ∙ ap (λ (p : List ℕ). p ++ body f memoryEntry) (take-add contentsSize (size f layoutEntry) f))
+
+pub parts : (f : List ℕ) → fileCheck f ≡ Done → Parts f
+unfolding body entryFails
+parts f e =
+    let s = sound f e in
+    let r : (k : ℕ) → k < entries → Right f k (begins f k) = λ k h. right f k (begins f k) (none-fails f e k h) in
+    let long : (k : ℕ) → k < entries → length (body f k) ≡ size f k =
+    λ k h. simp (length-take, length-drop) (omega (arith, r k h .within)) in
+    record {
+      most = s .most;
+      all = in-parts f (omega (arith, s .whole, s .layout));
+      there = λ k h. r k h .there;
+      long = long;
+      layout = long layoutEntry (omega arith) ∙ s .layout;
+    }
+
+-- ---- and back
+
+module _ (f : List ℕ) (p : Parts f) where
+  long-layout : size f layoutEntry ≡ layoutBytes
+  long-layout = sym (p .long layoutEntry (omega arith)) ∙ p .layout
+
+  ends : length f ≡ end f
+  ends =
+      let m = p .long memoryEntry (omega arith) in
+      let t = p .long traceEntry (omega arith) in
+      let n = simp (length-append, length-take) at (ap length (p .all)) in
+      omega (arith, n, m, t, p .layout, long-layout)
+
+  no-entry-fails : (k : ℕ) → k < entries → entryFails f k ≡ false
+  unfolding entryFails begins
+  no-entry-fails zero h =
+      simp (
+        eq-eqb _ _ (p .there layoutEntry h),
+        le-ltb (length f) (contentsSize + size f layoutEntry) (omega (arith, ends)),
+        eq-eqb (size f layoutEntry) layoutBytes long-layout,
+      )
+  no-entry-fails (suc zero) h =
+      simp (
+        eq-eqb _ _ (p .there memoryEntry h),
+        le-ltb (length f) (contentsSize + size f layoutEntry + size f memoryEntry) (omega (arith, ends)),
+      )
+  no-entry-fails (suc (suc zero)) h =
+      simp (
+        eq-eqb _ _ (p .there traceEntry h),
+        le-ltb (length f) (end f) (omega (arith, ends)),
+        le-ltb (end f) (length f) (omega (arith, ends)),
+      )
+  no-entry-fails (suc (suc (suc k))) h = absurd (omega arith)
+
+  pub passes : fileCheck f ≡ Done
+  unfolding fileCheck firstFailing
+  passes =
+      simp (
+        le-ltb largestFile (length f) (p .most),
+        le-ltb (length f) contentsSize (omega (arith, ends)),
+        found-none entries (entryFails f) no-entry-fails,
+      )

@@ -74,7 +74,8 @@ module _ (memory layout memory′ : List ℕ) (b : Bytes layout) (p : Attests me
       call .served .kept a (simp (e, f))
 
   -- every byte outside MR and CTR
-  pub accepted-else : (a : ℕ) → within (l .mr) a ≡ false → within (l .ctr) a ≡ false → getD memory′ a 0 ≡ getD memory a 0
+  pub accepted-else : (a : ℕ) → within (l .mr) a ≡ false → within (l .ctr) a ≡ false
+      → getD memory′ a 0 ≡ getD memory a 0
   accepted-else a u v =
       let m = call .lies .mail in
       apart-kept a (elim (outside-ends (l .mr) a u) [ inl h ↦ inl (omega arith) | inr h ↦ inr (omega arith) ]) v

@@ -1,6 +1,6 @@
 -- Two files that differ in hidden bytes: what is read of them to refuse or to judge them. Assumes nothing.
 use mathlib.Core.Path.{_≡_, refl, ap, sym, subst, _∙_}
-use mathlib.Core.Bool.{Bool, true, false, _&&_}
+use mathlib.Core.Bool.{Bool, true, _&&_}
 use mathlib.Core.List.{List}
 use mathlib.Core.Logic.{inl, inr, ⊎-elim}
 use Prim.Native.Nat.{ℕ, zero, suc, _+_, _-_, _*_, _/_, _%_, _≤_, _<_}
@@ -12,17 +12,15 @@ use borrow.Author.Tests.{ltb-true, ltb-false}
 use Rattle.notions.proofs.Tests.{cases, clash, untrue}
 use Rattle.notions.proofs.First.{first-same}
 use Rattle.refusal.specs.declared.Answer.the-variants.{Done}
-use Rattle.layout.specs.declared.Layout.{Layout}
 use Rattle.layout.specs.Layouts.{layoutOf}
-use Rattle.traces.specs.Traces.{stepSize, count, stepBytes, unclean, traceCheck}
-use Rattle.traces.proofs.Laws.{step-byte}
+use Rattle.traces.specs.Traces.{stepSize}
 use Rattle.file_contents.specs.Contents.{contentsSize, entries, entrySize, numberSize, layoutEntry, memoryEntry}
 use Rattle.file_contents.specs.Contents.{traceEntry, offset, size, begins, entryFails, firstFailing, fileCheck, body}
 use Rattle.file_contents.proofs.Entries.{sound}
 use Rattle.file_segments.specs.Segments.{segmentCheck}
 use Rattle.runfile.specs.Promises.{fileLayout, fileMemory, fileTrace, bodiesCheck, judgeCheck}
 use Rattle.claims_monitor.specs.Demand3.{Agree, storesScratch, secret, cpuData, SameTrace}
-use Rattle.claims_monitor.proofs.Demand3Calls.{blank-same}
+use Rattle.claims_monitor.proofs.Demand3Calls.{blank-same, trace-check-same}
 use Rattle.claims_files.specs.Files.{SameFile, ByteOf, KeyOrScratch, Hidden, SameBytes, SameForm}
 use Rattle.claims_files.proofs.Segments.{AllHeads, SameHeld, held-heads, all-heads, check-same, told-by-either}
 use Rattle.claims_files.proofs.Segments.{described-agree, agree-held}
@@ -40,26 +38,6 @@ part-same f g p n e h =
     (λ i l.
     let m : i < n = let z = simp length-take at l in omega arith in
     part-byte f p n i m ∙ h i m ∙ sym (part-byte g p n i m))
-
--- ---- two traces
-
-module _ (l : Layout) (b c : List ℕ) (g : SameTrace l b c) where
-  unclean-same : (n : ℕ) → unclean b n ≡ unclean c n
-  unclean-same n =
-      let at : (j : ℕ) → j < stepSize → eqb j cpuData ≡ false → getD (stepBytes b n) j 0 ≡ getD (stepBytes c n) j 0 =
-      λ j h e.
-      let m : (stepSize * n + j) % stepSize ≡ j = omega arith in
-      step-byte b n j h ∙ g .same (stepSize * n + j) (simp (m, e)) ∙ sym (step-byte c n j h) in
-      let e6 = at 6 (omega arith) refl in
-      let e9 = at 9 (omega arith) refl in
-      let e10 = at 10 (omega arith) refl in
-      let e11 = at 11 (omega arith) refl in
-      simp (e6, e9, e10, e11)
-
-  trace-check-same : (room : ℕ) → traceCheck b room ≡ traceCheck c room
-  unfolding traceCheck
-  trace-check-same room =
-      simp (g .long, first-same (count c) (unclean b) (unclean c) (λ n h. unclean-same n))
 
 -- ---- where hidden bytes stand
 

@@ -39,7 +39,7 @@ use Rattle.runfile.proofs.Files.{admitted}
 use Rattle.file_segments.proofs.Described as D
 use Rattle.report.specs.Text.{printed, judgedText}
 use Rattle.report.proofs.Laws.{judged-same}
-use Rattle.claims_files.proofs.Parts.{segments-end, parts, passes}
+use Rattle.claims_files.proofs.Parts.{segments-end, parts, passes, cut-fails}
 use Rattle.claims_files.proofs.Bytes.{changed, layout-same, trace-same, judge-check-same, memories-agree}
 use Rattle.claims_files.proofs.Bytes.{same-form, same-bytes, either-file}
 use Rattle.claims_files.specs.Files as claim
@@ -208,6 +208,12 @@ pub either-file-tells : claim.EitherFileTells
 either-file-tells = either-file
 
 -- ---- one that is refused
+
+pub cut-short : claim.CutShort
+unfolding judgeCheck
+cut-short f memory room memory′ room′ n r e h j =
+    let c = cut-fails f n e h in
+    (c .0, traced-row-settled r (Refused (record { number = contents; place = c .0 })) (j .answered ∙ simp (c .1)))
 
 not-2 : ℕ → Type 0
 not-2 n = n ≢ layoutSize

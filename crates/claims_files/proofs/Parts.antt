@@ -1,21 +1,23 @@
--- The parts of a file, and the end of its segments. Assumes nothing.
+-- The parts of a file, the end of its segments, and a file that is cut short. Assumes nothing.
 use mathlib.Core.Path.{_≡_, ap, sym, _∙_}
-use mathlib.Core.Bool.{Bool, false}
+use mathlib.Core.Bool.{Bool, true, false}
 use mathlib.Core.List.{List, _++_}
-use Prim.Native.Nat.{ℕ, zero, suc, _+_, _≤_, _<_}
+use Prim.Native.Nat.{ℕ, zero, suc, _+_, _*_, _≤_, _<_}
 use native.Mathlib.Omega.{arith}
 use lib.Dec.{ltb, leb}
-use lib.ListN.{length, take, length-append, length-take, length-drop}
-use lib.Seq.{take-add, take-all}
+use lib.ListN.{length, take, drop, length-append, length-take, length-drop}
+use lib.Seq.{take-add, take-all, ext-getD, getD-take, getD-drop}
 use borrow.Author.Tests.{ltb-true, ltb-false, leb-true, le-ltb, eq-eqb}
 use Rattle.notions.specs.First.{first}
 use Rattle.notions.proofs.Tests.{cases}
 use Rattle.notions.proofs.First.{first-found, none-found, found-none}
+use Rattle.refusal.specs.Answers.{refusedAt}
+use Rattle.refusal.specs.Numbers.{contents}
 use Rattle.refusal.specs.declared.Answer.the-variants.{Done}
 use Rattle.refusal.proofs.Order.{done-passed}
 use Rattle.layout.specs.Layouts.{layoutBytes}
 use Rattle.file_contents.specs.Contents.{largestFile, contentsSize, entries, layoutEntry, memoryEntry, traceEntry}
-use Rattle.file_contents.specs.Contents.{size, begins, entryFails, firstFailing, fileCheck, body}
+use Rattle.file_contents.specs.Contents.{entrySize, numberSize, size, begins, entryFails, firstFailing, fileCheck, body}
 use Rattle.file_contents.proofs.Entries.{sound, Right, right}
 use Rattle.file_segments.specs.Segments.{place, segments, segmentCheck}
 use Rattle.file_segments.proofs.Described as D
@@ -127,3 +129,52 @@ module _ (f : List ℕ) (p : Parts f) where
         le-ltb (length f) contentsSize (omega (arith, ends)),
         found-none entries (entryFails f) no-entry-fails,
       )
+
+-- ---- one that is cut short
+
+-- a number of the contents, read from what is left
+number-left : (f : List ℕ) (n p : ℕ) → p + numberSize ≤ n → take numberSize (drop p (take n f)) ≡ take numberSize (drop p f)
+number-left f n p h =
+    ext-getD 0 (take numberSize (drop p (take n f))) (take numberSize (drop p f))
+    (simp (length-take, length-drop) (omega arith))
+    (λ i l.
+    let m : i < numberSize = let z = simp length-take at l in omega arith in
+    getD-take numberSize (drop p (take n f)) i 0 m
+    ∙ getD-drop p (take n f) i 0
+    ∙ getD-take n f (p + i) 0 (omega arith)
+    ∙ sym (getD-take numberSize (drop p f) i 0 m ∙ getD-drop p f i 0))
+
+size-left : (f : List ℕ) (n k : ℕ) → contentsSize ≤ n → k < entries → size (take n f) k ≡ size f k
+size-left f n k h l = cc (number-left f n (entrySize * k + numberSize) (omega arith))
+
+module _ (f : List ℕ) (n : ℕ) (e : fileCheck f ≡ Done) (h : n < length f) where
+  abbrev left : List ℕ
+  left = take n f
+
+  length-left : length left ≡ n
+  length-left = simp length-take (omega arith)
+
+  passes-not : fileCheck left ≡ Done → contentsSize ≤ n → ⊥
+  passes-not d l =
+      let p = ends f (parts f e) in
+      let q = ends left (parts left d) in
+      let a = size-left f n layoutEntry l (omega arith) in
+      let b = size-left f n memoryEntry l (omega arith) in
+      let c = size-left f n traceEntry l (omega arith) in
+      omega (arith, length-left)
+
+  short : ltb largestFile (length left) ≡ false
+  short = le-ltb largestFile (length left) (omega (arith, length-left, parts f e .most))
+
+  fails : ltb (firstFailing left) entries ≡ true
+  unfolding firstFailing fileCheck
+  fails =
+      cases (ltb (length left) contentsSize) (λ t. simp t)
+      (λ t.
+      let l = ltb-false (length left) contentsSize t in
+      cases (ltb (firstFailing left) entries) (λ u. u)
+      (λ u. absurd (passes-not (simp (short, u)) (omega (arith, length-left)))))
+
+  pub cut-fails : (k : ℕ) × (fileCheck left ≡ refusedAt contents k)
+  unfolding fileCheck
+  cut-fails = (firstFailing left, simp (short, fails))

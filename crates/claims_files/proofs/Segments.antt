@@ -21,7 +21,8 @@ use Rattle.file_segments.specs.Segments.{headSize, startAt, sizeAt, place, reac
 use Rattle.file_segments.specs.Segments.{firstWrong, segmentCheck, described}
 use Rattle.file_segments.proofs.Described as D
 use Rattle.claims_monitor.specs.Demand3.{Agree}
-use Rattle.claims_files.specs.Files.{guarded, KeyOrScratch, SameHeads}
+use Rattle.claims_monitor.specs.Outside.{krOrXs}
+use Rattle.claims_files.specs.Files.{KeyOrScratch, SameHeads}
 use Rattle.claims_files.proofs.Parts.{segments-end}
 
 in-order : {P : Type 0} (j k : ℕ) → (j < k → P) → (k < j → P) → (j ≡ k → P) → P
@@ -78,7 +79,7 @@ module _ (l : Layout) (b : List ℕ) where
       let a = startAt b (place b k) + i in
       let nk = not-true (within (l .kr) a) hk in
       let nx = not-true (within (l .xs) a) hx in
-      false≢true (simp (nk, nx) at (ap (guarded l) (sym (address-is k i h z)) ∙ z .hides))
+      false≢true (simp (nk, nx) at (ap (krOrXs l) (sym (address-is k i h z)) ∙ z .hides))
 
 -- ---- two bodies
 
@@ -167,7 +168,7 @@ module _ (b c : List ℕ) (long : length b ≡ length c) (heads : AllHeads b c) 
         counted = omega (arith, z .counted, segments-same);
         held = omega (arith, z .held, held-same k);
         stands = omega (arith, z .stands, place-same k);
-        hides = ap (λ (n : ℕ). guarded l (n + z .byte)) (sym (from-same k)) ∙ z .hides;
+        hides = ap (λ (n : ℕ). krOrXs l (n + z .byte)) (sym (from-same k)) ∙ z .hides;
       }
 
   -- ---- the memories that they describe
@@ -252,9 +253,9 @@ module _ (b c : List ℕ) (long : length b ≡ length c) (heads : AllHeads b c) 
           → getD b (place b k + headSize + i) 0 ≡ getD c (place b k + headSize + i) 0
       held-byte k i h m z =
           let a = D.from b k + i in
-          let secret : guarded l a ≡ true → KeyOrScratch l b p =
+          let secret : krOrXs l a ≡ true → KeyOrScratch l b p =
           λ t. record { segment = k; byte = i; counted = h; held = m; stands = z; hides = t } in
-          let o = untrue (guarded l a) (λ t. n (secret t)) in
+          let o = untrue (krOrXs l a) (λ t. n (secret t)) in
           let q = neither (within (l .kr) a) (within (l .xs) a) o in
           body-from-memory k i h m (g .same a (ap not (q .0)) (ap not (q .1)))
 

@@ -1,15 +1,14 @@
 -- Run files: what a file that is judged comes to. Claims; proofs/Files.antt has the proofs. Assumes nothing.
 use mathlib.Core.Path.{_≡_}
-use mathlib.Core.Bool.{Bool, true, _||_}
+use mathlib.Core.Bool.{true}
 use mathlib.Core.Logic.{_≢_, _↔_, _⊎_}
 use mathlib.Core.List.{List, _++_}
 use Prim.Native.Nat.{ℕ, _+_, _≤_, _<_}
 use lib.ListN.{length, getD, take, set}
-use Rattle.refusal.specs.Numbers.{layoutSize}
+use Rattle.refusal.specs.Numbers.{layoutSize, contents}
 use Rattle.refusal.specs.declared.Refusal.{Refusal}
 use Rattle.refusal.specs.declared.Answer.the-variants.{Done}
 use Rattle.layout.specs.declared.Layout.{Layout}
-use Rattle.layout.specs.Regions.{within}
 use Rattle.layout.specs.Layouts.{layoutBytes}
 use Rattle.layout.specs.Calls.{memoryBytes}
 use Rattle.monitor.specs.declared.Totals.{Totals}
@@ -21,6 +20,7 @@ use Rattle.file_contents.specs.Contents.{offset, size, begins, fileCheck, body}
 use Rattle.file_segments.specs.Segments.{headSize, startAt, sizeAt, place, segments, segmentCheck, described}
 use Rattle.runfile.specs.Promises.{fileLayout, fileMemory, fileTrace, judgeCheck, Judges}
 use Rattle.report.specs.Text.{fileText}
+use Rattle.claims_monitor.specs.Outside.{krOrXs}
 use Rattle.claims_monitor.specs.Demand3.{Agree, secret, SameTrace, SameCall}
 
 -- ---- the parts of a file
@@ -102,18 +102,14 @@ PrintsTheSame =
 abbrev pub ByteOf : List ℕ → ℕ → ℕ → ℕ → Type 0
 ByteOf f e k p = (p < length (body f e)) × (k ≡ begins f e + p)
 
--- the address is in KR or XS
-abbrev pub guarded : Layout → ℕ → Bool
-guarded l a = within (l .kr) a || within (l .xs) a
-
--- byte p of a memory body is what a segment holds for such an address: so many bytes behind its start and length
+-- byte p of a memory body is what a segment holds for an address in KR or XS: so many bytes behind its start and length
 pub record KeyOrScratch (l : Layout) (b : List ℕ) (p : ℕ) : Type 0 where
   pub segment : ℕ
   pub byte : ℕ
   pub counted : segment < segments b
   pub held : byte < sizeAt b (place b segment)
   pub stands : p ≡ place b segment + headSize + byte
-  pub hides : guarded l (startAt b (place b segment) + byte) ≡ true
+  pub hides : krOrXs l (startAt b (place b segment) + byte) ≡ true
 
 -- byte k of a file is hidden: it is such a byte, or one that the trace stores into the scratch. That is none of the
 -- contents, of the layout or of a segment's start and length
@@ -167,6 +163,13 @@ abbrev pub EitherFileTells : Type 0
 EitherFileTells = (f g : List ℕ) → SameBytes f g → SameBytes g f
 
 -- ---- one that is refused
+
+-- what is left of a file that is cut short earns 13, if the contents of the whole pass: a broken transfer is told
+abbrev pub CutShort : Type 0
+CutShort =
+    (f memory room memory′ room′ : List ℕ) (n : ℕ) (r : Traced) → fileCheck f ≡ Done → n < length f
+    → Judges (take n f) memory room memory′ room′ r
+    → (place : ℕ) × (r ≡ Refused (record { number = contents; place = place }))
 
 -- a layout body has 24 bytes, so 2 is never given
 abbrev pub NeverLayoutSize : Type 0

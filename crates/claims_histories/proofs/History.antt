@@ -259,12 +259,12 @@ recovery h i c a j p q r e g =
     (old-stays-old h (suc i) j p (omega arith) (challenge (layoutOf (h .layout)) (h .memories j))
     (rw (u .counted, ← a .request) g))
 
--- a string that is greater than one below c is not at or below c
-above-old : (a c n : List ℕ) → length c ≡ length n → greater c n ≡ false → greater a c ≡ false → greater a n ≡ false
-above-old a c n e old g =
+-- where c is not greater than n, neither is a string at or below c
+at-or-below : (a c n : List ℕ) → length c ≡ length n → greater c n ≡ false → greater a c ≡ false → greater a n ≡ false
+at-or-below a c n e old g =
     untrue (greater a n)
     (λ f. clash (greater a c)
-    (elim (not-greater c n e old) [ inl u ↦ greater-trans a n c f u | inr u ↦ subst (λ (s : List ℕ). greater a s ≡ true) (sym u) f ]) g)
+    (elim (not-greater c n e old) [ inl u ↦ greater-trans a n c f u | inr u ↦ ap (greater a) u ∙ f ]) g)
 
 pub refused-for-ever : claim.RefusedForEver
 refused-for-ever h i p e j q n r f g =
@@ -275,10 +275,11 @@ refused-for-ever h i p e j q n r f g =
     (subst (λ (k : Event). Happens (h .layout) k x (h .memories (suc i))) e (h .happens i p)) .0 refl in
     let w = placed (h .layout) (h .in-bytes) (good-done (h .layout) (o .1)) in
     let lc = length-challenge l w x (o .0) in
-    let ln = length-bytes (l .ctr .lo) (size (l .ctr)) x (omega (arith, o .0, w .counter, w .counter-in)) ∙ w .counter in
+    let ln =
+    length-bytes (l .ctr .lo) (size (l .ctr)) x (omega (arith, o .0, w .counter, w .counter-in)) ∙ w .counter in
     old-at h i j q n (o .0) (o .1) r f
     (old-stays-old h i j q (omega arith) (challenge l (h .memories j))
-    (above-old (challenge l (h .memories j)) (challenge l x) (counter l x) (lc ∙ sym ln) (o .2) g))
+    (at-or-below (challenge l (h .memories j)) (challenge l x) (counter l x) (lc ∙ sym ln) (o .2) g))
 
 -- ---- what the station learns
 
@@ -302,9 +303,8 @@ tells h i c expected v k =
     let s = k .said in
     let n = a .happened in
     let e = key-stays h i (omega arith) in
-    rw (← e, a .request) (agrees (h .memories i) (h .layout) (h .memories (suc i)) (h .in-bytes) (accepted-attests h i c a)
-    .other expected v (k .some) (k .most)
-    (rw (e, ← a .request) s))
+    let g = agrees (h .memories i) (h .layout) (h .memories (suc i)) (h .in-bytes) (accepted-attests h i c a) in
+    agrees-as e (sym (a .request)) refl g .other expected v (k .some) (k .most) s
 
 pub last-tells : claim.LastTells
 last-tells h i j c d x y v w p q g =

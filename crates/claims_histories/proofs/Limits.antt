@@ -31,8 +31,8 @@ use Rattle.claims_histories.specs.Limits as claim
 use Rattle.claims_histories.specs.Limits.{cutTrace, OutOfOrder}
 use Rattle.claims_histories.specs.History.{Event, attest, trace, change, Keeps, Happens}
 use Rattle.claims_histories.proofs.History.{Exchange, exchange, trace-keeps}
-use Rattle.claims_histories.proofs.OutOfOrder.{cutTraced, happens, cut-leaves, cut-because, changed, changed-keeps}
-use Rattle.claims_histories.proofs.OutOfOrder.{changed-region}
+use Rattle.claims_histories.proofs.OutOfOrder.{cutTraced, happens, cut-leaves, cut-because}
+use Rattle.claims_histories.proofs.OutOfOrder.{changed, changed-keeps, changed-region}
 
 -- ---- the counter is kept
 
@@ -60,7 +60,8 @@ counter-moved layout moved memory c b good good-moved v long lc fresh fresh-move
     let a = accepts x layout y b p in
     let ctr : counter m y ≡ counter m memory =
     region-agrees (m .ctr) y memory (e .long ∙ sym long)
-    (λ k w. e .else k (ap (λ (r : Region). within r k) (sym (v .mail)) ∙ mail-apart moved good-moved k w) (v .apart k w)) in
+    (λ k w. e .else k
+    (ap (λ (r : Region). within r k) (sym (v .mail)) ∙ mail-apart moved good-moved k w) (v .apart k w)) in
     let same : challenge m y ≡ challenge l x =
     ap (λ (r : Region). bytesAt (r .lo) 32 y) (v .mail) ∙ accepted-challenge x layout y b p in
     let asks : challenge m y ≡ c = same ∙ sym (e .asks) in

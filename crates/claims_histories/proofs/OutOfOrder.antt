@@ -1,15 +1,15 @@
 -- A visit that is cut after its reply is stored, as a trace, and the history in which a check stands in the wrong
 -- order. Assumes nothing.
-use mathlib.Core.Path.{_≡_, refl, sym, ap, subst, _∙_}
-use mathlib.Core.Logic.{_⊎_, inl, inr}
+use mathlib.Core.Path.{_≡_, refl, ap, _∙_}
+use mathlib.Core.Logic.{inl, inr}
 use mathlib.Core.Bool.{true, false, and-false}
 use mathlib.Core.List.{List}
-use Prim.Native.Nat.{ℕ, zero, suc, _+_, _*_, _≤_, _<_}
+use Prim.Native.Nat.{ℕ, zero, suc, _+_, _≤_, _<_}
 use native.Mathlib.Omega.{arith}
-use lib.Dec.{eqb, ltb}
-use lib.ListN.{length, getD, replicate, length-replicate}
+use lib.Dec.{ltb}
+use lib.ListN.{length, replicate, length-replicate}
 use lib.Seq.{sets, length-sets}
-use borrow.Author.Tests.{eq-eqb, ltb-true, ltb-false, lt-ltb, le-ltb}
+use borrow.Author.Tests.{ltb-true}
 use Rattle.notions.specs.Bytes.{Bytes}
 use Rattle.notions.specs.Choice.{pick}
 use Rattle.notions.proofs.Tests.{cases, clash, untrue}
@@ -17,7 +17,7 @@ use Rattle.refusal.specs.declared.Answer.the-variants.{Done}
 use Rattle.layout.specs.declared.Region.{Region}
 use Rattle.layout.specs.declared.Layout.{Layout}
 use Rattle.layout.specs.Regions.{within, outside, size}
-use Rattle.layout.specs.Layouts.{CR, KR, XS, MR, CTR, AR, region, layoutOf}
+use Rattle.layout.specs.Layouts.{KR, MR, CTR, AR, region, layoutOf}
 use Rattle.layout.specs.Good.{Good}
 use Rattle.layout.specs.Calls.{memoryBytes}
 use Rattle.layout.proofs.Laws.{good-done, zero-outside, ends-within, outside-ends, elsewhere}
@@ -25,31 +25,25 @@ use Rattle.layout.proofs.Placed.{placed}
 use Rattle.layout.proofs.Calls.{call-rest}
 use Rattle.steps.specs.declared.Step.{Step}
 use Rattle.steps.specs.Steps.{Addressed}
-use Rattle.rules.specs.declared.Monitor.{Monitor}
-use Rattle.rules.specs.Rules.{cause, start, broken, numbered, codeWritesIn}
-use Rattle.rules.proofs.Laws.{cause-lowest}
+use Rattle.rules.specs.Rules.{cause, codeWritesIn}
 use Rattle.traces.specs.Traces.{count, steps, traceCheck}
 use Rattle.monitor.specs.declared.Traced.{Traced}
 use Rattle.monitor.specs.declared.Traced.the-variants as traced
-use Rattle.monitor.specs.Decisions.{next}
 use Rattle.monitor.specs.Runs.{State, begin, before, resetting, memoryAfter, roomAfter}
 use Rattle.monitor.specs.Promises.{Traces, traceCallCheck}
 use Rattle.monitor.proofs.Runs.{Alike, alike}
-use Rattle.board.specs.Memory.{bytesOf, key, counter, attested, challenge, replyAt, replied}
-use Rattle.board.specs.Attestation.{due}
+use Rattle.board.specs.Memory.{bytesOf, key, counter, attested, replyAt}
 use Rattle.board.specs.Promises.{Attests}
-use Rattle.board.proofs.Stores.{bytes-agree, stored-there, stored-off}
-use Rattle.board.proofs.Laws.{region-agrees, length-due}
-use Rattle.claims_monitor.specs.Marked.{at, interrupted}
-use Rattle.claims_monitor.specs.Traces.{remembers, causeAt, resetsAt, Nothing}
+use Rattle.board.proofs.Stores.{stored-there, stored-off}
+use Rattle.board.proofs.Laws.{region-agrees}
+use Rattle.claims_monitor.specs.Marked.{interrupted}
+use Rattle.claims_monitor.specs.Traces.{remembers, causeAt, resetsAt}
 use Rattle.claims_monitor.proofs.Runs.{in-parts}
-use Rattle.claims_monitor.proofs.Traces.{resets-nothing}
 use Rattle.claims_monitor.specs.Traces.{InParts}
 use Rattle.claims_attestation.proofs.Accepts.{Accepts, accepts}
 use Rattle.claims_histories.specs.History.{Keeps, CounterLeft, Happens, trace}
 use Rattle.claims_histories.specs.Visit.{Free, made, Makes, played}
 use Rattle.claims_histories.specs.Cut.{Uncounted}
-use Rattle.claims_histories.specs.Script.{encoded}
 use Rattle.claims_histories.specs.Limits.{cutSteps, cutTrace}
 use Rattle.claims_histories.proofs.Visit.{visit-passes, code-ends}
 use Rattle.claims_histories.proofs.Cut.{cut-resets, cut-uncounted, can-be-cut}
@@ -93,8 +87,8 @@ module _ (memory layout memory′ : List ℕ) (h : Bytes layout) (a : Attests me
   inside : within (ly .cr) (rest 32 .pc) ≡ true
   inside = ap (λ (s : Step). within (ly .cr) (s .pc)) (cut .2) ∙ code-ends layout (call .good) .0
 
-  stopped : Nothing ly rest (released memory) 32 × (rest 32 .interrupt ≡ true → causeAt ly rest (released memory) 32 ≡ 4)
-  stopped = cut-resets ly rest (released memory) 32 free (cut .0 .begins) (omega arith) inside refl
+  by-interrupt : causeAt ly rest (released memory) 32 ≡ 4
+  by-interrupt = cut-resets ly rest (released memory) 32 free (cut .0 .begins) (omega arith) inside refl .1 refl
 
   rest-leaves : Uncounted ly memory (before ly rest (released memory) 33 .memory)
   rest-leaves = cut-uncounted layout memory′ rest (released memory) 32 h free a (cut .0) (cut .1) inside refl
@@ -104,7 +98,7 @@ module _ (memory layout memory′ : List ℕ) (h : Bytes layout) (a : Attests me
       counted-more ly rest (released memory) 32
       ∙ simp (
         none-reset ly rest (released memory) 32 (visit-passes ly rest (released memory) 32 free (cut .0 .begins)),
-        stopped .1 refl,
+        by-interrupt,
       )
 
   in-two : InParts ly all all rest (begin memory) 1 33
@@ -132,7 +126,7 @@ module _ (memory layout memory′ : List ℕ) (h : Bytes layout) (a : Attests me
   cause-is =
       ap (λ (x : State). cause ly (x .monitor) (all 33))
       (before-there ∙ ap (λ (x : State). before ly rest x 32) first-left)
-      ∙ stopped .1 refl
+      ∙ by-interrupt
     where
       before-there : before ly all (begin memory) 33 ≡ before ly rest (before ly all (begin memory) 1) 32
       before-there =
@@ -187,7 +181,8 @@ module _ (memory layout memory′ : List ℕ) (h : Bytes layout) (a : Attests me
       (λ t.
       let k = ltb-true i 32 t in
       let w = ends-within (ly .mr) (replyAt ly + i) (omega arith) (omega (arith, call .lies .mail)) in
-      let o = elsewhere (call .good) MR CTR (omega arith) (omega arith) (λ q. omega arith) refl refl (replyAt ly + i) w in
+      let o =
+      elsewhere (call .good) MR CTR (omega arith) (omega arith) (λ q. omega arith) refl refl (replyAt ly + i) w in
       simp (t, o, and-false))
       (λ t. simp (t, and-false))
 

@@ -174,7 +174,14 @@ module _ (memory layout memory′ : List ℕ) (h : Bytes layout) (a : Attests me
       (λ e.
       let q : i ≡ 64 = omega (arith, ltb-false i 64 e) in
       rw q (leaves-freely ly rest (released memory) 64 free-first (plays-rest .visit)
-      (zero-outside layout (call .allowed .laid)) refl refl refl))
+      (zero-outside layout (call .allowed .laid)) .1 (record {
+        key = refl;
+        scratch = refl;
+        counter = refl;
+        dma-key = refl;
+        dma-scratch = refl;
+        dma-counter = refl;
+      })))
 
   rest-leaves : before ly rest (released memory) 65 .memory ≡ memory′
   unfolding before
@@ -191,13 +198,16 @@ module _ (memory layout memory′ : List ℕ) (h : Bytes layout) (a : Attests me
 
   all-left : before ly all (begin memory) 66 .memory ≡ memory′
   all-left =
-      ap (λ (x : State). x .memory) (in-two .left ∙ ap (λ (x : State). before ly rest x 65) (after-first ly all memory refl)) ∙ rest-leaves
+      ap (λ (x : State). x .memory)
+      (in-two .left ∙ ap (λ (x : State). before ly rest x 65) (after-first ly all memory refl))
+      ∙ rest-leaves
 
   all-counted : resetting ly all (begin memory) 66 ≡ 0
   all-counted =
       in-two .counted
       ∙ simp (
-        none-reset ly all (begin memory) 1 (λ i k. let q : i ≡ 0 = omega arith in rw q (first-passes ly all memory refl)),
+        none-reset ly all (begin memory) 1
+        (λ i k. let q : i ≡ 0 = omega arith in rw q (first-passes ly all memory refl)),
         after-first ly all memory refl,
         none-reset ly rest (released memory) 65 rest-passes,
       )

@@ -24,7 +24,6 @@ use Rattle.steps.specs.declared.Step.{Step}
 use Rattle.rules.specs.declared.Monitor.{Monitor}
 use Rattle.rules.specs.Rules.{cpuWritesIn, writable, rule15, cause}
 use Rattle.monitor.specs.Decisions.{next, decidedMemory}
-use Rattle.rules.proofs.Laws.{no-more, nor, unbroken-passes}
 use Rattle.rules.proofs.None.{visit-lowest}
 use Rattle.effects.specs.Effects.{stored, storing, written}
 use Rattle.effects.proofs.Laws.{written-byte}
@@ -35,6 +34,7 @@ use Rattle.board.specs.Attestation.{due, accepted}
 use Rattle.board.specs.Promises.{Attests}
 use Rattle.board.proofs.Stores.{sets-more}
 use Rattle.board.proofs.Laws.{length-due, length-challenge}
+use Rattle.claims_monitor.proofs.Outside.{lawful, passes-if}
 use Rattle.claims_monitor.specs.Traces.{crOrKr, remembers, causeAt}
 use Rattle.claims_histories.specs.Visit as claim
 use Rattle.claims_histories.specs.Visit.{Inside, Begins, Free, storeAt, storeByte, cutAfter, storesOut, made}
@@ -54,23 +54,6 @@ module _ (l : Layout) (m : Monitor) (s : Step) (free : m .held ≡ false) where
       cases (s .cpuwrites) (λ e. simp (e, i .writes e)) (λ e. simp e) in
       let away : rule15 m s ≡ false = simp free in
       simp (away, visit-lowest l m s (simp (i .pc, came, i .calm, i .idle, lawful)))
-
-  -- a step outside that accesses nothing, from CR's highest address
-  outside-passes : m .lastpc ≡ l .cr .hi → within (l .cr) (s .pc) ≡ false → s .cpureads ≡ false → s .cpuwrites ≡ false
-      → s .dmaactive ≡ false
-      → cause l m s ≡ 0
-  outside-passes e o r w d =
-      unbroken-passes l m s (simp free)
-      (nor (simp (o, r))
-      (nor (simp (free, eq-eqb (m .lastpc) (l .cr .hi) e, and-false))
-      (nor (simp (free, o, and-false))
-      (nor (simp (free, o, and-false))
-      (nor (simp (o, r, w))
-      (nor (simp (free, o))
-      (nor (simp d)
-      (nor (simp d)
-      (nor (simp (d, free))
-      (nor (simp (o, w, d, and-false)) no-more))))))))))
 
 -- ---- a visit
 
@@ -94,12 +77,15 @@ visit-passes l t x n f v (suc i) h =
     (ap (within (l .cr)) (sym (last-after l t x i e)) ∙ o))
 
 pub leaves-freely : claim.LeavesFreely
-leaves-freely l t x zero f v o r w d = absurd (not-suc-le-zero (v .some))
-leaves-freely l t x (suc n) f v o r w d =
+leaves-freely l t x zero f v o = absurd (not-suc-le-zero (v .some))
+leaves-freely l t x (suc n) f v o =
     let e = visit-passes l t x (suc n) f (v .begins) n (omega arith) in
     let q : n ≡ suc n - 1 = omega arith in
-    outside-passes l (remembers l t x (suc n)) (t (suc n)) (unheld-after l t x n e)
-    (last-after l t x n e ∙ ap (λ (k : ℕ). t k .pc) q ∙ v .ends) o r w d
+    let m = remembers l t x (suc n) in
+    let u = unheld-after l t x n e in
+    let h : eqb (m .lastpc) (l .cr .hi) ≡ true =
+    eq-eqb (m .lastpc) (l .cr .hi) (last-after l t x n e ∙ ap (λ (k : ℕ). t k .pc) q ∙ v .ends) in
+    (lawful l m (t (suc n)) o, passes-if l m (t (suc n)) o (simp u) (simp (h, and-false)))
 
 -- ---- attestation as a visit
 

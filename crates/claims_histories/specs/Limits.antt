@@ -58,7 +58,8 @@ pub record AcceptedTwice (layout moved memory c : List ℕ) : Type 0 where
 -- so it is on every board, for every challenge above what stands in both places
 abbrev pub CounterMoved : Type 0
 CounterMoved =
-    (layout moved memory c : List ℕ) → Bytes layout → Good layout → Good moved → Moved (layoutOf layout) (layoutOf moved)
+    (layout moved memory c : List ℕ) → Bytes layout → Good layout → Good moved
+    → Moved (layoutOf layout) (layoutOf moved)
     → length memory ≡ memoryBytes → length c ≡ 32
     → greater c (counter (layoutOf layout) memory) ≡ true → greater c (counter (layoutOf moved) memory) ≡ true
     → AcceptedTwice layout moved memory c

@@ -1,6 +1,7 @@
 -- A lawful visit to the attestation code passes the monitor, and attestation is such a visit.
 -- Definitions and claims; the proofs are in proofs/Visit.antt. Assumes nothing.
 use mathlib.Core.Path.{_≡_}
+use mathlib.Core.Logic.{_↔_}
 use mathlib.Core.Bool.{Bool, true, false, _&&_}
 use mathlib.Core.List.{List}
 use Prim.Native.Nat.{ℕ, zero, suc, _+_, _-_, _≤_, _<_}
@@ -21,6 +22,7 @@ use Rattle.board.specs.Attestation.{due}
 use Rattle.board.specs.Promises.{Attests}
 use Rattle.claims_monitor.specs.Marked.{writes}
 use Rattle.claims_monitor.specs.Demand3.{withData}
+use Rattle.claims_monitor.specs.Outside.{Lawful}
 use Rattle.claims_monitor.specs.Traces.{causeAt, byteAt}
 
 -- ---- a lawful visit
@@ -53,12 +55,11 @@ abbrev pub VisitPasses : Type 0
 VisitPasses =
     (l : Layout) (t : ℕ → Step) (x : State) (n : ℕ) → Free l x → Begins l t n → (i : ℕ) → i < n → causeAt l t x i ≡ 0
 
--- nor does a step outside CR that follows a whole one, accesses nothing and has no DMA
+-- a step outside CR that follows a whole one passes exactly if it is lawful by itself, as one that accesses nothing is
 abbrev pub LeavesFreely : Type 0
 LeavesFreely =
-    (l : Layout) (t : ℕ → Step) (x : State) (n : ℕ) → Free l x → Visit l t n
-    → within (l .cr) (t n .pc) ≡ false → t n .cpureads ≡ false → t n .cpuwrites ≡ false → t n .dmaactive ≡ false
-    → causeAt l t x n ≡ 0
+    (l : Layout) (t : ℕ → Step) (x : State) (n : ℕ) → Free l x → Visit l t n → within (l .cr) (t n .pc) ≡ false
+    → (causeAt l t x n ≡ 0) ↔ Lawful l (t n)
 
 -- ---- attestation as a visit
 

@@ -95,7 +95,7 @@ module _ (l : Layout) (b c : List ℕ) (g : SameTrace l b c) where
   unclean-same : (n : ℕ) → unclean b n ≡ unclean c n
   unclean-same n = ap not (clean-same l b c g n)
 
-  trace-check-same : (room : ℕ) → traceCheck b room ≡ traceCheck c room
+  pub trace-check-same : (room : ℕ) → traceCheck b room ≡ traceCheck c room
   unfolding traceCheck
   trace-check-same room = simp (g .long, first-same (count c) (unclean b) (unclean c) (λ k h. unclean-same k))
 

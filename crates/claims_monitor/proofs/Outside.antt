@@ -25,7 +25,7 @@ use Rattle.claims_monitor.proofs.Traces.{barred}
 -- ---- which steps reset there
 
 module _ (l : Layout) (m : Monitor) (s : Step) (o : within (l .cr) (s .pc) ≡ false) where
-  lawful : cause l m s ≡ 0 → Lawful l s
+  pub lawful : cause l m s ≡ 0 → Lawful l s
   lawful e =
       let c = neither (cpuWritesIn (l .ctr) s) (dmaWritesIn (l .ctr) s) (simp o at (quiet l m s e 10 (omega arith))) in
       record {

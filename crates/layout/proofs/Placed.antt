@@ -27,9 +27,8 @@ pub record Placed (l : Layout) : Type 0 where
   pub counter-in : l .ctr .lo + counterBytes ≤ memoryBytes
   pub region : 1 ≤ size (l .ar)
   pub region-in : l .ar .lo + size (l .ar) ≤ memoryBytes
-  -- the fewest bytes of MR are apart from those of CTR, of CR and of KR
+  -- the fewest bytes of MR are apart from those of CTR and of KR
   pub apart : (l .mr .lo + leastMailbox ≤ l .ctr .lo) ⊎ (l .ctr .lo + counterBytes ≤ l .mr .lo)
-  pub code-apart : (l .mr .lo + leastMailbox ≤ l .cr .lo) ⊎ (l .cr .lo + size (l .cr) ≤ l .mr .lo)
   pub key-apart : (l .mr .lo + leastMailbox ≤ l .kr .lo) ⊎ (l .kr .lo + keyBytes ≤ l .mr .lo)
 
 -- a region of a layout of bytes ends in the memory
@@ -80,8 +79,6 @@ good-placed b h g =
       region-in = omega arith;
       apart = elim (good-apart b g MR CTR (omega arith) (omega arith) refl)
           [ inl p ↦ inl (omega arith) | inr p ↦ inr (omega arith) ];
-      code-apart = elim (good-apart b g CR MR (omega arith) (omega arith) refl)
-          [ inl p ↦ inr (omega arith) | inr p ↦ inl (omega arith) ];
       key-apart = elim (good-apart b g KR MR (omega arith) (omega arith) refl)
           [ inl p ↦ inr (omega arith) | inr p ↦ inl (omega arith) ];
     }

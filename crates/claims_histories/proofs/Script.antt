@@ -207,7 +207,7 @@ module _ (memory layout memory′ : List ℕ) (h : Bytes layout) (a : Attests me
       in-two .counted
       ∙ simp (
         none-reset ly all (begin memory) 1
-        (λ i k. let q : i ≡ 0 = omega arith in rw q (first-passes ly all memory refl)),
+            (λ i k. let q : i ≡ 0 = omega arith in rw q (first-passes ly all memory refl)),
         after-first ly all memory refl,
         none-reset ly rest (released memory) 65 rest-passes,
       )

@@ -317,6 +317,7 @@ pub record Exchange (layout memory c : List ℕ) : Type 0 where
   pub request : List ℕ
   pub after : List ℕ
   pub keeps : Keeps (layoutOf layout) memory request
+  pub region : attested (layoutOf layout) request ≡ attested (layoutOf layout) memory
   pub asks : c ≡ challenge (layoutOf layout) request
   pub serves : Attests request layout after Done
   pub counted : counter (layoutOf layout) after ≡ c
@@ -345,6 +346,7 @@ exchange layout b good memory c long lc fresh =
       counter = request-counter layout b good memory c t long lc refl;
     } in
     let is = request-is layout b good memory c t long lc refl in
+    let region = request-attested layout b good memory c t long lc refl in
     let done = request-done layout b good memory c t long lc refl fresh in
     let serves : Attests m layout (accepted l m) Done = record { answered = simp done; memory-left = simp done } in
     let s = accepts m layout (accepted l m) b serves .served in
@@ -352,13 +354,14 @@ exchange layout b good memory c long lc fresh =
       request = m;
       after = accepted l m;
       keeps = keeps;
+      region = region;
       asks = sym is;
       serves = serves;
       counted = s .counted ∙ is;
       long = s .long ∙ keeps .long ∙ long;
       replies = s .reply ∙ sym (due-is l m ∙ reply-is _ _ _);
       told =
-          agrees-as (keeps .key) is (request-attested layout b good memory c t long lc refl)
+          agrees-as (keeps .key) is region
           (agrees m layout (accepted l m) b serves);
       else = λ a u v.
           accepted-else m layout (accepted l m) b serves a u v

@@ -79,6 +79,7 @@ counter-moved layout moved memory c b good good-moved v long lc fresh fresh-move
       request = x;
       once = y;
       twice = accepted m y;
+      posts = e .keeps;
       asks = sym (e .asks);
       first = p;
       asks-again = asks;
@@ -178,6 +179,7 @@ in-a-row layout memory c d altered b p a q =
       because = p .because;
       answered = p .answered;
       uncounted = p .keeps .counter ∙ p .posts .counter;
+      region = q .region ∙ a .region;
       accepted = record { happened = omega arith; event = refl; request = q .asks };
       told = agrees-as (a .keeps .key ∙ p .keeps .key ∙ p .posts .key) refl (a .region) (q .told);
     }

@@ -23,7 +23,7 @@ use Rattle.board.specs.Promises.{Attests}
 use Rattle.claims_monitor.specs.Marked.{pageBytes, at, interrupted}
 use Rattle.claims_monitor.specs.Traces.{causeAt}
 use Rattle.claims_attestation.specs.Demand2.{Agrees}
-use Rattle.claims_histories.specs.History.{trace, History, Accepted}
+use Rattle.claims_histories.specs.History.{trace, Keeps, History, Accepted}
 use Rattle.claims_histories.specs.Cut.{playedTo}
 use Rattle.claims_histories.specs.Script.{encoded}
 
@@ -45,11 +45,13 @@ pub record Moved (l m : Layout) : Type 0 where
   pub mail : m .mr ≡ l .mr
   pub apart : (a : ℕ) → within (m .ctr) a ≡ true → within (l .ctr) a ≡ false
 
--- one request, accepted with the one layout and then again, as it stands in the mailbox, with the other
+-- one request for c, put into the mailbox of a board, accepted with the one layout and then again, as it stands there,
+-- with the other
 pub record AcceptedTwice (layout moved memory c : List ℕ) : Type 0 where
   pub request : List ℕ
   pub once : List ℕ
   pub twice : List ℕ
+  pub posts : Keeps (layoutOf layout) memory request
   pub asks : challenge (layoutOf layout) request ≡ c
   pub first : Attests request layout once Done
   pub asks-again : challenge (layoutOf moved) once ≡ c
@@ -100,6 +102,7 @@ pub record OutOfOrder (layout memory c d altered : List ℕ) : Type 0 where
       Agrees (key l memory) c (attested l memory) (replied l (history .memories 2)))
   -- and the counter has not moved: AR is altered, and a request for d is accepted
   pub uncounted : counter (layoutOf layout) (history .memories 2) ≡ counter (layoutOf layout) memory
+  pub region : attested (layoutOf layout) (history .memories 4) ≡ altered
   pub accepted : Accepted history 4 d
   pub told : (let l = layoutOf layout in Agrees (key l memory) d altered (replied l (history .memories 5)))
 

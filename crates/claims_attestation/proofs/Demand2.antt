@@ -35,6 +35,7 @@ use Rattle.board.specs.Promises.{Attests}
 use Rattle.board.proofs.Stores.{read-same, read-inside}
 use Rattle.board.proofs.Laws as board
 use Rattle.board.proofs.Laws.{done-allowed, allowed-done, attested-refused}
+use Rattle.station.specs.declared.Verdict.the-variants.{Yes}
 use Rattle.station.specs.Lengths.{Lengths}
 use Rattle.station.specs.Promises.{checkUnfit, ChecksReply}
 use Rattle.station.proofs.Laws.{token-fits, lengths-fit, fit-lengths, said-yes, says-yes, said-no, says-no}
@@ -237,6 +238,11 @@ yes-twice k c d given x y p q = sym (said-yes p .1) ∙ said-yes q .1
 
 -- ---- board and station agree
 
+is-yes : (k c given region : List ℕ) → Lengths k c given region → given ≡ reply k c region
+    → ChecksReply k c given region Yes
+is-yes k c given region f e =
+    record { answered = simp (lengths-fit k c given region f, equal-same given (reply k c region) e) }
+
 module _ (memory layout memory′ : List ℕ) (b : Bytes layout) (p : Attests memory layout memory′ Done) where
   abbrev l : Layout
   l = layoutOf layout
@@ -265,11 +271,11 @@ module _ (memory layout memory′ : List ℕ) (b : Bytes layout) (p : Attests me
       let n = board.length-attested l w memory (call .allowed .long) in
       record {
         same =
-            λ v q. says-yes v q (fit (attested l memory) (omega (arith, n, w .region)) (omega (arith, n, w .region-in)))
+            is-yes _ _ _ _ (fit (attested l memory) (omega (arith, n, w .region)) (omega (arith, n, w .region-in)))
             replied-is;
-        other = λ expected v some most q. (
-          λ e. sym (said-yes (subst (ChecksReply _ _ _ _) e q) .1) ∙ replied-is,
-          λ e. says-yes v q (fit expected some most) (replied-is ∙ sym e),
+        other = λ expected some most. (
+          λ q. sym (said-yes q .1) ∙ replied-is,
+          λ e. is-yes _ _ _ _ (fit expected some most) (replied-is ∙ sym e),
         );
       }
 

@@ -135,11 +135,10 @@ YesTwice =
 -- what the station, with the key k and the challenge c, says to a reply that a board gave for a region
 pub record Agrees (k c region given : List ℕ) : Type 0 where
   -- for that region: yes
-  pub same : (v : Verdict) → ChecksReply k c given region v → v ≡ Yes
+  pub same : ChecksReply k c given region Yes
   -- for another expected region: yes exactly if the routine's replies for the two are equal
-  pub other : (expected : List ℕ) (v : Verdict) → 1 ≤ length expected → length expected ≤ 65536
-      → ChecksReply k c given expected v
-      → (v ≡ Yes) ↔ (reply k c expected ≡ reply k c region)
+  pub other : (expected : List ℕ) → 1 ≤ length expected → length expected ≤ 65536
+      → ChecksReply k c given expected Yes ↔ (reply k c expected ≡ reply k c region)
 
 -- the station makes a token for a challenge above CTR with the board's key: the board accepts it, and they agree on AR
 -- as it was

@@ -36,11 +36,14 @@ use Rattle.board.specs.Promises.{Attests}
 use Rattle.board.proofs.Stores.{bytes-read}
 use Rattle.board.proofs.Laws.{length-bytes, region-agrees, length-challenge, due-is, attested-refused}
 use Rattle.station.specs.declared.Verdict.{Verdict}
+use Rattle.station.specs.declared.Verdict.the-variants.{Yes}
+use Rattle.station.specs.Promises.{ChecksReply}
+use Rattle.station.specs.Settled.{checks-reply-settled}
 use Rattle.claims_monitor.specs.Traces.{remembers, byteAt}
 use Rattle.claims_attestation.specs.Demand2.{Agrees, posted}
 use Rattle.claims_histories.specs.History as claim
 use Rattle.claims_histories.specs.History.{Event, attest, trace, change, Keeps, storesCounter, Happens, History}
-use Rattle.claims_histories.specs.History.{Accepted, counterAt, Checked, Tells}
+use Rattle.claims_histories.specs.History.{Accepted, counterAt, CheckedReply, Tells}
 use Rattle.conditions.proofs.Answers.{lent-either}
 use Rattle.claims_attestation.proofs.Accepts.{accepts, accepted-key, accepted-else}
 use Rattle.claims_attestation.proofs.Demand2.{old-refused, agrees, agrees-as}
@@ -297,14 +300,18 @@ key-stays h i p =
     kept-since h (key (layoutOf (h .layout))) (event-key (h .layout) (h .in-bytes)) 0 i (omega arith) p
 
 -- what the station says to the reply of one accepted request
-tells : (h : History) (i : ℕ) (c expected : List ℕ) (v : Verdict) → Checked h i c expected v → Tells h i c expected v
+tells : (h : History) (i : ℕ) (c expected : List ℕ) (v : Verdict) → CheckedReply h i c expected v
+    → Tells h i c expected v
 tells h i c expected v k =
     let a = k .accepted in
-    let s = k .said in
     let n = a .happened in
-    let e = key-stays h i (omega arith) in
-    let g = agrees (h .memories i) (h .layout) (h .memories (suc i)) (h .in-bytes) (accepted-attests h i c a) in
-    agrees-as e (sym (a .request)) refl g .other expected v (k .some) (k .most) s
+    let x = h .memories i in
+    let y = h .memories (suc i) in
+    let g = agrees x (h .layout) y (h .in-bytes) (accepted-attests h i c a) in
+    let o = agrees-as (key-stays h i (omega arith)) (sym (a .request)) refl g .other expected (k .some) (k .most) in (
+      λ e. o .0 (subst (ChecksReply _ _ _ _) e (k .said)),
+      λ e. checks-reply-settled _ _ _ _ v Yes (k .said) (o .1 e),
+    )
 
 pub last-tells : claim.LastTells
 last-tells h i j c d x y v w p q g =

@@ -1,13 +1,16 @@
 -- The claims about what the counter's history rests on hold. Assumes nothing.
 use mathlib.Core.Path.{_≡_, refl, sym, ap, subst, _∙_}
-use mathlib.Core.Bool.{true, false}
-use mathlib.Core.List.{List}
+use mathlib.Core.Bool.{Bool, true, false, _&&_}
+use mathlib.Core.List.{List, [], _∷_}
 use Prim.Native.Nat.{ℕ, zero, suc, _+_, _<_}
 use native.Mathlib.Omega.{arith}
+use lib.Dec.{ltb}
 use lib.ListN.{length}
+use borrow.Author.Tests.{ltb-true}
 use Rattle.notions.specs.Bytes.{Bytes}
 use Rattle.notions.specs.First.{first}
-use Rattle.notions.proofs.Tests.{untrue}
+use Rattle.notions.proofs.Bytes.{bytes-cons}
+use Rattle.notions.proofs.Tests.{untrue, both}
 use Rattle.refusal.specs.Settled.{row-settled}
 use Rattle.refusal.specs.declared.Answer.the-variants.{Done}
 use Rattle.layout.specs.declared.Region.{Region}
@@ -15,7 +18,7 @@ use Rattle.layout.specs.Regions.{within, size}
 use Rattle.layout.specs.Layouts.{MR, CTR, region, layoutOf, layoutCheck}
 use Rattle.layout.specs.Good.{Good}
 use Rattle.layout.specs.Calls.{memoryBytes}
-use Rattle.layout.proofs.Laws.{good-done, within-ends, elsewhere}
+use Rattle.layout.proofs.Laws.{done-good, good-done, within-ends, elsewhere}
 use Rattle.traces.specs.Traces.{steps}
 use Rattle.monitor.specs.Runs.{begin, memoryAfter}
 use Rattle.routine.specs.Strings.{greater}
@@ -23,12 +26,14 @@ use Rattle.routine.proofs.Order.{greater-trans}
 use Rattle.board.specs.Memory.{bytesAt, bytesOf, key, counter, attested, challenge, received, replied}
 use Rattle.board.specs.Attestation.{attestCheck, accepted}
 use Rattle.board.proofs.Laws.{allowed-done, attested-done, region-agrees}
+use Rattle.claims_monitor.specs.Marked.{pageBytes}
 use Rattle.claims_monitor.specs.Traces.{causeAt}
+use Rattle.claims_monitor.proofs.Marked.{page-layout}
 use Rattle.claims_attestation.proofs.Accepts.{accepts, accepted-key, accepted-challenge, accepted-received}
-use Rattle.claims_attestation.specs.Demand2.{Agrees}
-use Rattle.claims_attestation.proofs.Demand2.{agrees-as}
+use Rattle.claims_attestation.specs.Demand2.{Request, Agrees}
+use Rattle.claims_attestation.proofs.Demand2.{accepts-exactly, agrees-as}
 use Rattle.claims_histories.specs.Limits as claim
-use Rattle.claims_histories.specs.Limits.{cutTrace, OutOfOrder}
+use Rattle.claims_histories.specs.Limits.{movedBytes, cutTrace, OutOfOrder}
 use Rattle.claims_histories.specs.History.{Event, attest, trace, change, Keeps, Happens}
 use Rattle.claims_histories.proofs.History.{Exchange, exchange, trace-keeps}
 use Rattle.claims_histories.proofs.OutOfOrder.{cutTraced, happens, cut-leaves, cut-because}
@@ -104,6 +109,27 @@ page-moved =
           };
     }
 
+-- bytes, told by a test
+small : List ℕ → Bool
+small [] = true
+small (x ∷ b) = ltb x 256 && small b
+
+small-bytes : (b : List ℕ) → small b ≡ true → Bytes b
+unfolding small
+small-bytes [] e = λ i. omega arith
+small-bytes (x ∷ b) e =
+    let p = both (ltb x 256) (small b) e in
+    bytes-cons x b (ltb-true x 256 (p .0)) (small-bytes b (p .1))
+
+page-bytes : Bytes pageBytes
+unfolding small
+page-bytes = small-bytes pageBytes refl
+
+pub page-twice : claim.PageTwice
+page-twice memory c long lc fresh fresh-moved =
+    counter-moved pageBytes movedBytes memory c page-bytes (done-good pageBytes (page-layout .passes))
+    (done-good movedBytes (page-moved .passes)) (page-moved .moved) long lc fresh fresh-moved
+
 -- ---- a visit runs to its end
 
 -- a request for c in the mailbox, and the visit that is cut
@@ -112,6 +138,7 @@ record Cut (layout memory c : List ℕ) : Type 0 where
   after : List ℕ
   posts : Keeps (layoutOf layout) memory request
   asks : challenge (layoutOf layout) request ≡ c
+  genuine : Request (layoutOf layout) request
   judged : Happens layout (trace (cutTrace (layoutOf layout) request) cutTraced) request after
   because :
       (let b = cutTrace (layoutOf layout) request in
@@ -132,6 +159,7 @@ cut-visit layout memory c b p =
       after = memoryAfter l t x;
       posts = p .keeps;
       asks = sym (p .asks);
+      genuine = accepts-exactly x layout (p .after) Done (p .serves) .0 refl .2;
       judged = h;
       because = cut-because x layout (p .after) b (p .serves);
       keeps = trace-keeps x layout t (h .0 .0) (memoryAfter l t x) (h .0 .1) cutTraced (h .0 .2) (h .1);
@@ -157,8 +185,9 @@ alter layout memory altered b good apart long fits = record {
 
 -- the history of these and of a request that is then served
 in-a-row : (layout memory c d altered : List ℕ) → Bytes layout → (p : Cut layout memory c)
-    → (a : Altered layout (p .after) altered) → Exchange layout (a .after) d → OutOfOrder layout memory c d altered
-in-a-row layout memory c d altered b p a q =
+    → (a : Altered layout (p .after) altered) → Exchange layout (a .after) d → greater c d ≡ true
+    → OutOfOrder layout memory c d altered
+in-a-row layout memory c d altered b p a q larger =
     let l = layoutOf layout in
     let t = cutTrace l (p .request) in
     let m = memories memory (p .request) (p .after) (a .after) (q .request) (q .after) in
@@ -175,12 +204,14 @@ in-a-row layout memory c d altered b p a q =
       laid = refl;
       from = refl;
       asks = p .asks;
+      request = p .genuine;
       cut = refl;
       because = p .because;
       answered = p .answered;
       uncounted = p .keeps .counter ∙ p .posts .counter;
       region = q .region ∙ a .region;
       accepted = record { happened = omega arith; event = refl; request = q .asks };
+      larger = larger;
       told = agrees-as (a .keeps .key ∙ p .keeps .key ∙ p .posts .key) refl (a .region) (q .told);
     }
   where
@@ -221,4 +252,4 @@ checked-out-of-order layout memory c d altered b good apart long lc ld la fresh 
     let a = alter layout (p .after) altered b good apart n la in
     let e : counter l (a .after) ≡ counter l memory = a .keeps .counter ∙ p .keeps .counter ∙ p .posts .counter in
     in-a-row layout memory c d altered b p a
-    (exchange layout b good (a .after) d (a .keeps .long ∙ n) ld (ap (greater d) e ∙ fresh))
+    (exchange layout b good (a .after) d (a .keeps .long ∙ n) ld (ap (greater d) e ∙ fresh)) larger

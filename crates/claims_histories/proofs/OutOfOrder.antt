@@ -88,10 +88,11 @@ module _ (memory layout memory′ : List ℕ) (h : Bytes layout) (a : Attests me
   inside = ap (λ (s : Step). within (ly .cr) (s .pc)) (cut .2) ∙ code-ends layout (call .good) .0
 
   by-interrupt : causeAt ly rest (released memory) 32 ≡ 4
-  by-interrupt = cut-resets ly rest (released memory) 32 free (cut .0 .begins) (omega arith) inside refl .1 refl
+  by-interrupt = cut-resets ly rest (released memory) 32 free (cut .0 .begins) (omega arith) inside .interrupt refl
 
   rest-leaves : Uncounted ly memory (before ly rest (released memory) 33 .memory)
-  rest-leaves = cut-uncounted layout memory′ rest (released memory) 32 h free a (cut .0) (cut .1) inside refl
+  rest-leaves =
+      cut-uncounted layout memory′ rest (released memory) 32 h free a (cut .0) (cut .1) (simp by-interrupt)
 
   rest-counts : resetting ly rest (released memory) 33 ≡ 1
   rest-counts =

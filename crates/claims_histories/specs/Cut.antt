@@ -1,11 +1,10 @@
 -- A visit that is cut between the reply's last byte and the counter's first: the board has answered and not counted.
 -- Definitions and claims; the proofs are in proofs/Cut.antt. Assumes nothing.
 use mathlib.Core.Path.{_≡_}
-use mathlib.Core.Bool.{true, _||_}
+use mathlib.Core.Bool.{true, false, _||_}
 use mathlib.Core.List.{List}
 use Prim.Native.Nat.{ℕ, suc, _≤_, _<_}
 use lib.Dec.{ltb}
-use lib.ListN.{length}
 use Rattle.notions.specs.Bytes.{Bytes}
 use Rattle.notions.specs.Choice.{pick}
 use Rattle.refusal.specs.declared.Answer.{Answer}
@@ -14,24 +13,22 @@ use Rattle.layout.specs.declared.Layout.{Layout}
 use Rattle.layout.specs.Layouts.{layoutOf}
 use Rattle.layout.specs.Regions.{within}
 use Rattle.steps.specs.declared.Step.{Step}
+use Rattle.rules.specs.Rules.{writable}
 use Rattle.monitor.specs.Runs.{State, before}
-use Rattle.board.specs.Memory.{key, counter, attested, challenge, received, replied}
+use Rattle.board.specs.Memory.{replied}
 use Rattle.board.specs.Attestation.{due}
 use Rattle.board.specs.Promises.{Attests}
-use Rattle.claims_monitor.specs.Traces.{causeAt, Nothing}
+use Rattle.claims_monitor.specs.Outside.{krOrXs}
+use Rattle.claims_monitor.specs.Traces.{causeAt, resetsAt}
+use Rattle.claims_attestation.specs.Demand2.{SameRequest}
 use Rattle.claims_histories.specs.Visit.{Free, Begins, cutAfter, made, Makes, played}
 
 -- ---- answered and not counted
 
 -- in y stands the reply to the request that stands in memory; the request, the counter, the key and AR are as they were
 pub record Uncounted (l : Layout) (memory y : List ℕ) : Type 0 where
-  pub long : length y ≡ length memory
+  pub request : SameRequest l y memory
   pub reply : replied l y ≡ due l memory
-  pub counter : counter l y ≡ counter l memory
-  pub challenge : challenge l y ≡ challenge l memory
-  pub received : received l y ≡ received l memory
-  pub key : key l y ≡ key l memory
-  pub attested : attested l y ≡ attested l memory
 
 -- after 32 of the 64 stores of an accepted call it is so
 abbrev pub AnsweredUncounted : Type 0
@@ -56,21 +53,25 @@ AnsweredAgain =
 
 -- ---- what cuts a visit
 
--- an interrupt or an active DMA at the next step, while PC is in CR: it resets, changes no byte and hands out nothing,
--- and of an interrupt the cause is 4
+-- an interrupt at the next step, while PC is in CR, resets with cause 4; an active DMA resets too, without an interrupt
+-- and where no lower rule applies with cause 9
+pub record Cuts (l : Layout) (t : ℕ → Step) (x : State) (n : ℕ) : Type 0 where
+  pub resets : (t n .interrupt || t n .dmaactive) ≡ true → resetsAt l t x n ≡ true
+  pub interrupt : t n .interrupt ≡ true → causeAt l t x n ≡ 4
+  pub dma : t n .interrupt ≡ false → t n .dmaactive ≡ true → krOrXs l (t n .dmaaddress) ≡ false
+      → (t n .cpuwrites ≡ true → writable l (t n .cpuaddress) ≡ true) → causeAt l t x n ≡ 9
+
 abbrev pub CutResets : Type 0
 CutResets =
     (l : Layout) (t : ℕ → Step) (x : State) (n : ℕ) → Free l x → Begins l t n → 0 < n
-    → within (l .cr) (t n .pc) ≡ true → (t n .interrupt || t n .dmaactive) ≡ true
-    → Nothing l t x n × (t n .interrupt ≡ true → causeAt l t x n ≡ 4)
+    → within (l .cr) (t n .pc) ≡ true → Cuts l t x n
 
--- behind the 32nd store it leaves the board so
+-- a reset behind the 32nd store, whatever its cause, leaves the board so
 abbrev pub CutUncounted : Type 0
 CutUncounted =
     (layout memory′ : List ℕ) (t : ℕ → Step) (x : State) (n : ℕ) → Bytes layout → Free (layoutOf layout) x
     → Attests (x .memory) layout memory′ Done → (let l = layoutOf layout in
-    Makes l (x .memory) t n → made l t n ≡ 32
-    → within (l .cr) (t n .pc) ≡ true → (t n .interrupt || t n .dmaactive) ≡ true
+    Makes l (x .memory) t n → made l t n ≡ 32 → resetsAt l t x n ≡ true
     → Uncounted l (x .memory) (before l t x (suc n) .memory))
 
 -- the visit `played` up to step k, and then s

@@ -43,7 +43,7 @@ pub data Event : Type 0 where
   -- anything else: power loss, the loading of forms
   change : Event
 
--- CR, KR and CTR stay; every other byte may change
+-- CR, KR and CTR stay; every other byte may change. (CR is ROM; the claims below need KR and CTR alone)
 pub record Keeps (l : Layout) (x y : List ℕ) : Type 0 where
   pub long : length y ≡ length x
   pub code : bytesOf (l .cr) y ≡ bytesOf (l .cr) x
@@ -81,6 +81,7 @@ StepKeeps =
 
 -- what happened to a board: n events, where memories i is the memory before event i
 pub record History : Type 0 where
+  -- the layout is bytes, so that no region ends behind the memory
   pub layout : List ℕ
   pub in-bytes : Bytes layout
   pub n : ℕ
@@ -160,7 +161,7 @@ KeyStays = (h : History) (i : ℕ) → i ≤ h .n → keyAt h i ≡ keyAt h 0
 
 -- the request c was accepted at event i, and the station, which has the board's key and expects a region, said v to the
 -- reply that the call left
-pub record Checked (h : History) (i : ℕ) (c expected : List ℕ) (v : Verdict) : Type 0 where
+pub record CheckedReply (h : History) (i : ℕ) (c expected : List ℕ) (v : Verdict) : Type 0 where
   pub accepted : Accepted h i c
   pub some : 1 ≤ length expected
   pub most : length expected ≤ 65536
@@ -176,7 +177,7 @@ Tells h i c expected v =
 -- challenge may believe the last
 abbrev pub LastTells : Type 0
 LastTells =
-    (h : History) (i j : ℕ) (c d x y : List ℕ) (v w : Verdict) → Checked h i c x v → Checked h j d y w
+    (h : History) (i j : ℕ) (c d x y : List ℕ) (v w : Verdict) → CheckedReply h i c x v → CheckedReply h j d y w
     → greater d c ≡ true → (i < j) × Tells h j d y w
 
 -- ---- there are such histories

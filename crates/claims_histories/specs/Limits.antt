@@ -1,5 +1,6 @@
--- What the counter's history rests on: where one of its conditions fails, an old request is accepted again, or a check
--- stands in the wrong order. Definitions and claims; the proofs are in proofs/Limits.antt. Assumes nothing.
+-- What the counter's history rests on: the counter is kept, the layout stays, a visit runs to its end. Where one of these
+-- three fails, an old request is accepted again, or a check stands in the wrong order. Definitions and claims; the proofs
+-- are in proofs/Limits.antt. Assumes nothing.
 use mathlib.Core.Path.{_≡_}
 use mathlib.Core.Bool.{true, false}
 use mathlib.Core.List.{List, [], _∷_, _++_}
@@ -22,7 +23,7 @@ use Rattle.board.specs.Memory.{key, counter, attested, challenge, received, rep
 use Rattle.board.specs.Promises.{Attests}
 use Rattle.claims_monitor.specs.Marked.{pageBytes, at, interrupted}
 use Rattle.claims_monitor.specs.Traces.{causeAt}
-use Rattle.claims_attestation.specs.Demand2.{Agrees}
+use Rattle.claims_attestation.specs.Demand2.{Request, Agrees}
 use Rattle.claims_histories.specs.History.{trace, Keeps, History, Accepted}
 use Rattle.claims_histories.specs.Cut.{playedTo}
 use Rattle.claims_histories.specs.Script.{encoded}
@@ -74,9 +75,16 @@ pub record PageMoved : Type 0 where
   pub passes : layoutCheck movedBytes ≡ Done
   pub moved : Moved (layoutOf pageBytes) (layoutOf movedBytes)
 
+-- so a board with the page's layout, moved so, accepts every such request twice
+abbrev pub PageTwice : Type 0
+PageTwice =
+    (memory c : List ℕ) → length memory ≡ memoryBytes → length c ≡ 32
+    → greater c (counter (layoutOf pageBytes) memory) ≡ true → greater c (counter (layoutOf movedBytes) memory) ≡ true
+    → AcceptedTwice pageBytes movedBytes memory c
+
 -- ---- a visit runs to its end
 
--- the visit of an accepted call, cut: a step at PC 0, the 32 stores of the reply, and an interrupt in CR
+-- a visit for the request in a memory, cut: a step at PC 0, the 32 stores of the reply, and an interrupt in CR
 abbrev pub cutSteps : Layout → List ℕ → ℕ → Step
 cutSteps l memory zero = at 0
 cutSteps l memory (suc i) = playedTo l memory 32 (interrupted (l .cr .lo)) i
@@ -84,13 +92,15 @@ cutSteps l memory (suc i) = playedTo l memory 32 (interrupted (l .cr .lo)) i
 abbrev pub cutTrace : Layout → List ℕ → List ℕ
 cutTrace l memory = encoded (cutSteps l memory) 34
 
--- a history in which a check with a smaller challenge is the later one
+-- a history in which the check with the larger challenge c is the earlier one
 pub record OutOfOrder (layout memory c d altered : List ℕ) : Type 0 where
   pub history : History
   pub laid : history .layout ≡ layout
   pub from : history .memories 0 ≡ memory
-  -- a request for c is put into the mailbox, and event 1 is a visit that an interrupt cuts: no call of `attest`
+  -- a request for c, as `attest` accepts it, is put into the mailbox; event 1 is a visit for it that an interrupt cuts,
+  -- and no call of `attest`
   pub asks : challenge (layoutOf layout) (history .memories 1) ≡ c
+  pub request : Request (layoutOf layout) (history .memories 1)
   pub cut : history .events 1 ≡ trace (cutTrace (layoutOf layout) (history .memories 1))
       (traced.Judged (record { steps = 34; resets = 1 }))
   pub because :
@@ -104,6 +114,7 @@ pub record OutOfOrder (layout memory c d altered : List ℕ) : Type 0 where
   pub uncounted : counter (layoutOf layout) (history .memories 2) ≡ counter (layoutOf layout) memory
   pub region : attested (layoutOf layout) (history .memories 4) ≡ altered
   pub accepted : Accepted history 4 d
+  pub larger : greater c d ≡ true
   pub told : (let l = layoutOf layout in Agrees (key l memory) d altered (replied l (history .memories 5)))
 
 -- there is one on every board whose AR shares no address with CR, for all d above CTR and c above d. To the reply to d

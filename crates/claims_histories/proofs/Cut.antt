@@ -98,7 +98,8 @@ pub answered-uncounted : claim.AnsweredUncounted
 answered-uncounted memory layout memory′ h a =
     let l = layoutOf layout in
     let w = accepts memory layout memory′ h a in
-    rw (all-replied l memory) (replied-only l (w .lies) (region-off layout (w .good) .1) memory (w .allowed .long))
+    subst (Uncounted l memory) (sym (all-replied l memory))
+    (replied-only l (w .lies) (region-off layout (w .good) .1) memory (w .allowed .long))
 
 -- so it is with every memory that is the same outside XS
 module _ (layout : List ℕ) (g : Good layout) (y z : List ℕ) (s : SameOutside (layoutOf layout) y z) where

@@ -43,7 +43,7 @@ use Rattle.claims_files.proofs.Parts.{segments-end, parts, passes, cut-
 use Rattle.claims_files.proofs.Bytes.{changed, layout-same, trace-same, judge-check-same, memories-agree}
 use Rattle.claims_files.proofs.Bytes.{same-form, same-bytes, either-file}
 use Rattle.claims_files.specs.Files as claim
-use Rattle.claims_files.specs.Files.{Names, SameFile, SameBytes}
+use Rattle.claims_files.specs.Files.{Names, SameFile, SameBytes, cutPlace}
 use Rattle.claims_monitor.proofs.Demand3.{demand-3-runs}
 use Rattle.claims_monitor.proofs.Demand3Calls.{blank-same, count-same, demand-3-calls}
 
@@ -212,8 +212,8 @@ either-file-tells = either-file
 pub cut-short : claim.CutShort
 unfolding judgeCheck
 cut-short f memory room memory′ room′ n r e h j =
-    let c = cut-fails f n e h in
-    (c .0, traced-row-settled r (Refused (record { number = contents; place = c .0 })) (j .answered ∙ simp (c .1)))
+    traced-row-settled r (Refused (record { number = contents; place = cutPlace f n }))
+    (j .answered ∙ simp (cut-fails f n e h))
 
 not-2 : ℕ → Type 0
 not-2 n = n ≢ layoutSize

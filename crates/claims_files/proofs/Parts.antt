@@ -1,27 +1,30 @@
 -- The parts of a file, the end of its segments, and a file that is cut short. Assumes nothing.
-use mathlib.Core.Path.{_≡_, ap, sym, _∙_}
+use mathlib.Core.Path.{_≡_, refl, ap, sym, _∙_}
 use mathlib.Core.Bool.{Bool, true, false}
 use mathlib.Core.List.{List, _++_}
+use mathlib.Core.Logic.{⊎-elim}
 use Prim.Native.Nat.{ℕ, zero, suc, _+_, _*_, _≤_, _<_}
+use native.Mathlib.Nat.{eq-or-lt-of-le, le-of-suc-le-suc, not-suc-le-zero}
 use native.Mathlib.Omega.{arith}
 use lib.Dec.{ltb, leb}
 use lib.ListN.{length, take, drop, length-append, length-take, length-drop}
 use lib.Seq.{take-add, take-all, ext-getD, getD-take, getD-drop}
-use borrow.Author.Tests.{ltb-true, ltb-false, leb-true, le-ltb, eq-eqb}
+use borrow.Author.Tests.{ltb-true, ltb-false, leb-true, lt-ltb, le-ltb, eq-eqb}
 use Rattle.notions.specs.First.{first}
 use Rattle.notions.proofs.Tests.{cases}
-use Rattle.notions.proofs.First.{first-found, none-found, found-none}
+use Rattle.notions.proofs.First.{first-found, first-is, none-found, found-none}
 use Rattle.refusal.specs.Answers.{refusedAt}
 use Rattle.refusal.specs.Numbers.{contents}
 use Rattle.refusal.specs.declared.Answer.the-variants.{Done}
 use Rattle.refusal.proofs.Order.{done-passed}
 use Rattle.layout.specs.Layouts.{layoutBytes}
 use Rattle.file_contents.specs.Contents.{largestFile, contentsSize, entries, layoutEntry, memoryEntry, traceEntry}
-use Rattle.file_contents.specs.Contents.{entrySize, numberSize, size, begins, entryFails, firstFailing, fileCheck, body}
+use Rattle.file_contents.specs.Contents.{entrySize, numberSize, offset, size, begins, entryFails, firstFailing}
+use Rattle.file_contents.specs.Contents.{fileCheck, body}
 use Rattle.file_contents.proofs.Entries.{sound, Right, right}
 use Rattle.file_segments.specs.Segments.{place, segments, segmentCheck}
 use Rattle.file_segments.proofs.Described as D
-use Rattle.claims_files.specs.Files.{Parts}
+use Rattle.claims_files.specs.Files.{FileParts, cutPlace}
 
 -- ---- the end of the segments
 
@@ -72,7 +75,7 @@ in-parts f h =
     (take-add a (size f memoryEntry) f
     ∙ ap (λ (p : List ℕ). p ++ body f memoryEntry) (take-add contentsSize (size f layoutEntry) f))
 
-pub parts : (f : List ℕ) → fileCheck f ≡ Done → Parts f
+pub parts : (f : List ℕ) → fileCheck f ≡ Done → FileParts f
 unfolding body entryFails
 parts f e =
     let s = sound f e in
@@ -89,7 +92,7 @@ parts f e =
 
 -- ---- and back
 
-module _ (f : List ℕ) (p : Parts f) where
+module _ (f : List ℕ) (p : FileParts f) where
   long-layout : size f layoutEntry ≡ layoutBytes
   long-layout = sym (p .long layoutEntry (omega arith)) ∙ p .layout
 
@@ -132,8 +135,22 @@ module _ (f : List ℕ) (p : Parts f) where
 
 -- ---- one that is cut short
 
+begins-grow : (f : List ℕ) (j k : ℕ) → j ≤ k → begins f j ≤ begins f k
+unfolding begins
+begins-grow f zero zero h = omega arith
+begins-grow f (suc j) zero h = absurd (not-suc-le-zero h)
+begins-grow f j (suc k) h =
+    ⊎-elim (λ d. omega (arith, ap (begins f) d)) (λ m. omega (arith, begins-grow f j k (le-of-suc-le-suc m)))
+    (eq-or-lt-of-le h)
+
+place-below : (f : List ℕ) (n : ℕ) → ltb (cutPlace f n) entries ≡ true
+place-below f n =
+    cases (ltb n (begins f memoryEntry)) (λ u. simp u)
+    (λ u. cases (ltb n (begins f traceEntry)) (λ v. simp (u, v)) (λ v. simp (u, v)))
+
 -- a number of the contents, read from what is left
-number-left : (f : List ℕ) (n p : ℕ) → p + numberSize ≤ n → take numberSize (drop p (take n f)) ≡ take numberSize (drop p f)
+number-left : (f : List ℕ) (n p : ℕ) → p + numberSize ≤ n
+    → take numberSize (drop p (take n f)) ≡ take numberSize (drop p f)
 number-left f n p h =
     ext-getD 0 (take numberSize (drop p (take n f))) (take numberSize (drop p f))
     (simp (length-take, length-drop) (omega arith))
@@ -144,9 +161,6 @@ number-left f n p h =
     ∙ getD-take n f (p + i) 0 (omega arith)
     ∙ sym (getD-take numberSize (drop p f) i 0 m ∙ getD-drop p f i 0))
 
-size-left : (f : List ℕ) (n k : ℕ) → contentsSize ≤ n → k < entries → size (take n f) k ≡ size f k
-size-left f n k h l = cc (number-left f n (entrySize * k + numberSize) (omega arith))
-
 module _ (f : List ℕ) (n : ℕ) (e : fileCheck f ≡ Done) (h : n < length f) where
   abbrev left : List ℕ
   left = take n f
@@ -154,27 +168,80 @@ module _ (f : List ℕ) (n : ℕ) (e : fileCheck f ≡ Done) (h : n < length f) 
   length-left : length left ≡ n
   length-left = simp length-take (omega arith)
 
-  passes-not : fileCheck left ≡ Done → contentsSize ≤ n → ⊥
-  passes-not d l =
-      let p = ends f (parts f e) in
-      let q = ends left (parts left d) in
-      let a = size-left f n layoutEntry l (omega arith) in
-      let b = size-left f n memoryEntry l (omega arith) in
-      let c = size-left f n traceEntry l (omega arith) in
-      omega (arith, length-left)
+  -- where the contents are left, the entries are the same, and those fail whose body is not whole
+  module _ (l : contentsSize ≤ n) where
+    offset-left : (k : ℕ) → k < entries → offset left k ≡ offset f k
+    offset-left k m = cc (number-left f n (entrySize * k) (omega arith))
+
+    size-left : (k : ℕ) → k < entries → size left k ≡ size f k
+    size-left k m = cc (number-left f n (entrySize * k + numberSize) (omega arith))
+
+    begins-left : (k : ℕ) → k ≤ entries → begins left k ≡ begins f k
+    unfolding begins
+    begins-left zero m = refl
+    begins-left (suc k) m = cc (begins-left k (omega arith), size-left k (omega arith))
+
+    there-left : (k : ℕ) → k < entries → offset left k ≡ begins left k
+    there-left k m = offset-left k m ∙ parts f e .there k m ∙ sym (begins-left k (omega arith))
+
+    ends-left : (k : ℕ) → k < entries → begins left k + size left k ≡ begins f (suc k)
+    unfolding begins
+    ends-left k m = cc (begins-left k (omega arith), size-left k m)
+
+    lost : (k : ℕ) → k < entries → n < begins f (suc k) → entryFails left k ≡ true
+    unfolding entryFails
+    lost k m b =
+        simp (
+          eq-eqb _ _ (there-left k m),
+          lt-ltb (length left) (begins left k + size left k) (omega (arith, length-left, ends-left k m)),
+        )
+
+    whole : (k : ℕ) → k < traceEntry → begins f (suc k) ≤ n → entryFails left k ≡ false
+    unfolding entryFails
+    whole zero m b =
+        simp (
+          eq-eqb _ _ (there-left layoutEntry (omega arith)),
+          le-ltb (length left) (begins left layoutEntry + size left layoutEntry)
+              (omega (arith, length-left, ends-left layoutEntry (omega arith))),
+          eq-eqb (size left layoutEntry) layoutBytes
+              (size-left layoutEntry (omega arith) ∙ long-layout f (parts f e)),
+        )
+    whole (suc zero) m b =
+        simp (
+          eq-eqb _ _ (there-left memoryEntry (omega arith)),
+          le-ltb (length left) (begins left memoryEntry + size left memoryEntry)
+              (omega (arith, length-left, ends-left memoryEntry (omega arith))),
+        )
+    whole (suc (suc k)) m b = absurd (omega arith)
+
+    found : (k : ℕ) → k < entries → begins f k ≤ n → n < begins f (suc k) → first entries (entryFails left) ≡ k
+    found k m b c =
+        first-is entries (entryFails left) k m
+        (λ j i. whole j (omega arith) (omega (arith, begins-grow f (suc j) k i)))
+        (lost k m c)
+
+  at-place : firstFailing left ≡ cutPlace f n
+  unfolding firstFailing begins
+  at-place =
+      cases (ltb (length left) contentsSize)
+      (λ t.
+      let z = ltb-true (length left) contentsSize t in
+      simp (t, lt-ltb n (begins f memoryEntry) (omega (arith, length-left))))
+      (λ t.
+      let l : contentsSize ≤ n = omega (arith, ltb-false (length left) contentsSize t, length-left) in
+      cases (ltb n (begins f memoryEntry))
+      (λ u. simp (t, u) (found l layoutEntry (omega arith) l (ltb-true n (begins f memoryEntry) u)))
+      (λ u.
+      let a = ltb-false n (begins f memoryEntry) u in
+      cases (ltb n (begins f traceEntry))
+      (λ v. simp (t, u, v) (found l memoryEntry (omega arith) a (ltb-true n (begins f traceEntry) v)))
+      (λ v.
+      simp (t, u, v)
+      (found l traceEntry (omega arith) (ltb-false n (begins f traceEntry) v) (omega (arith, ends f (parts f e)))))))
 
   short : ltb largestFile (length left) ≡ false
   short = le-ltb largestFile (length left) (omega (arith, length-left, parts f e .most))
 
-  fails : ltb (firstFailing left) entries ≡ true
-  unfolding firstFailing fileCheck
-  fails =
-      cases (ltb (length left) contentsSize) (λ t. simp t)
-      (λ t.
-      let l = ltb-false (length left) contentsSize t in
-      cases (ltb (firstFailing left) entries) (λ u. u)
-      (λ u. absurd (passes-not (simp (short, u)) (omega (arith, length-left)))))
-
-  pub cut-fails : (k : ℕ) × (fileCheck left ≡ refusedAt contents k)
+  pub cut-fails : fileCheck left ≡ refusedAt contents (cutPlace f n)
   unfolding fileCheck
-  cut-fails = (firstFailing left, simp (short, fails))
+  cut-fails = simp (short, at-place, place-below f n)

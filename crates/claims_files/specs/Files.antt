@@ -1,10 +1,13 @@
--- Run files: what a file that is judged comes to. Claims; proofs/Files.antt has the proofs. Assumes nothing.
+-- Run files: what they are made of, what one that is judged comes to, two that differ in key and scratch, and two cases
+-- of refusal. Claims; proofs/Files.antt has the proofs. Assumes nothing.
 use mathlib.Core.Path.{_≡_}
 use mathlib.Core.Bool.{true}
 use mathlib.Core.Logic.{_≢_, _↔_, _⊎_}
 use mathlib.Core.List.{List, _++_}
 use Prim.Native.Nat.{ℕ, _+_, _≤_, _<_}
+use lib.Dec.{ltb}
 use lib.ListN.{length, getD, take, set}
+use Rattle.notions.specs.Choice.{pick}
 use Rattle.refusal.specs.Numbers.{layoutSize, contents}
 use Rattle.refusal.specs.declared.Refusal.{Refusal}
 use Rattle.refusal.specs.declared.Answer.the-variants.{Done}
@@ -26,7 +29,7 @@ use Rattle.claims_monitor.specs.Demand3.{Agree, secret, SameTrace, SameCall}
 -- ---- the parts of a file
 
 -- its contents and the three bodies, one behind another, and nothing else
-pub record Parts (f : List ℕ) : Type 0 where
+pub record FileParts (f : List ℕ) : Type 0 where
   pub most : length f ≤ largestFile
   pub all : f ≡ take contentsSize f ++ body f layoutEntry ++ body f memoryEntry ++ body f traceEntry
   -- each body begins where its entry says, and is as long as that says
@@ -36,7 +39,7 @@ pub record Parts (f : List ℕ) : Type 0 where
 
 -- the contents of exactly these files pass
 abbrev pub Bodies : Type 0
-Bodies = (f : List ℕ) → (fileCheck f ≡ Done) ↔ Parts f
+Bodies = (f : List ℕ) → (fileCheck f ≡ Done) ↔ FileParts f
 
 -- ---- the memory that segments describe, byte by byte
 
@@ -62,7 +65,7 @@ DescribedSo = (b : List ℕ) → segmentCheck b ≡ Done → Described b
 -- ---- a file that is judged
 
 -- its answer is that of the call for a trace, on the memory, the layout and the trace that the file holds: so all that
--- is claimed of traces holds of files
+-- is claimed of calls that judge a trace holds of it
 abbrev pub FileIsTrace : Type 0
 FileIsTrace =
     (file memory room memory′ room′ : List ℕ) (t : Totals) → Judges file memory room memory′ room′ (Judged t)
@@ -90,7 +93,7 @@ Demand3Files =
     → Judges f x room x′ room₁ (Judged t) → Judges g y room y′ room₂ (Judged u)
     → SameCall (fileLayout f) t u room₁ room₂ x′ y′
 
--- so the same text is printed of both: who reads it learns nothing of the key
+-- so the same text is printed of two such files if both are judged
 abbrev pub PrintsTheSame : Type 0
 PrintsTheSame =
     (f g x y room : List ℕ) → SameFile f g → judgeCheck f x room ≡ Done → judgeCheck g y room ≡ Done
@@ -111,8 +114,7 @@ pub record KeyOrScratch (l : Layout) (b : List ℕ) (p : ℕ) : Type 0 where
   pub stands : p ≡ place b segment + headSize + byte
   pub hides : krOrXs l (startAt b (place b segment) + byte) ≡ true
 
--- byte k of a file is hidden: it is such a byte, or one that the trace stores into the scratch. That is none of the
--- contents, of the layout or of a segment's start and length
+-- byte k of a file is hidden: it is such a byte, or one that the trace stores into the scratch
 abbrev pub Hidden : List ℕ → ℕ → Type 0
 Hidden f k =
     ((p : ℕ) × ByteOf f memoryEntry k p × KeyOrScratch (fileLayout f) (body f memoryEntry) p)
@@ -123,15 +125,16 @@ pub record SameBytes (f g : List ℕ) : Type 0 where
   pub long : length f ≡ length g
   pub same : (k : ℕ) → (Hidden f k → ⊥) → getD f k 0 ≡ getD g k 0
 
--- demand 3 of files by their bytes, whether they are refused or not: both get the same answer and leave the same answer
--- room, and if they are judged, the memories that they leave differ at most in KR and XS
+-- demand 3 of files by their bytes, whether they are refused or not: with one answer room and lent memories of one
+-- length, both get the same answer and leave the same answer room, and if they are judged, the memories that they leave
+-- differ at most in KR and XS
 abbrev pub Demand3Bytes : Type 0
 Demand3Bytes =
     (f g x y room x′ y′ room₁ room₂ : List ℕ) (r q : Traced) → SameBytes f g → length x ≡ length y
     → Judges f x room x′ room₁ r → Judges g y room y′ room₂ q
     → (r ≡ q) × (room₁ ≡ room₂) × ((t : Totals) → r ≡ Judged t → Agree (fileLayout f) x′ y′)
 
--- and the same text is printed of both
+-- and the same text is printed of both, refused or not
 abbrev pub PrintsAlike : Type 0
 PrintsAlike = (f g x y room : List ℕ) → SameBytes f g → length x ≡ length y → fileText f x room ≡ fileText g y room
 
@@ -164,12 +167,19 @@ EitherFileTells = (f g : List ℕ) → SameBytes f g → SameBytes g f
 
 -- ---- one that is refused
 
--- what is left of a file that is cut short earns 13, if the contents of the whole pass: a broken transfer is told
+-- of a file that lost its end and has n bytes left: the first entry whose body is not left whole. A body ends where the
+-- next begins, and the trace's with the file
+abbrev pub cutPlace : List ℕ → ℕ → ℕ
+cutPlace f n =
+    pick (ltb n (begins f memoryEntry)) layoutEntry (pick (ltb n (begins f traceEntry)) memoryEntry traceEntry)
+
+-- what is left of such a file earns 13 at that entry, if the contents of the whole pass: at the trace's exactly if all
+-- that stands before the trace is left
 abbrev pub CutShort : Type 0
 CutShort =
     (f memory room memory′ room′ : List ℕ) (n : ℕ) (r : Traced) → fileCheck f ≡ Done → n < length f
     → Judges (take n f) memory room memory′ room′ r
-    → (place : ℕ) × (r ≡ Refused (record { number = contents; place = place }))
+    → r ≡ Refused (record { number = contents; place = cutPlace f n })
 
 -- a layout body has 24 bytes, so 2 is never given
 abbrev pub NeverLayoutSize : Type 0

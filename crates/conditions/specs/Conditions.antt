@@ -1,6 +1,5 @@
--- A call's refusals as a list of conditions, in the order in which they are tried, without the tests of its checks: the
--- refusal is the first that applies. For every call; each call's own conditions stand with the claims about it.
--- Assumes nothing.
+-- A call's refusals as a list of conditions, in the order in which they are tried: the refusal is the first that applies.
+-- No call and no check is named here; each call's own conditions stand with the claims about it. Assumes nothing.
 use mathlib.Core.Path.{_≡_}
 use mathlib.Core.Logic.{_↔_, _⊎_}
 use mathlib.Core.List.{List, [], _∷_}

@@ -28,6 +28,9 @@ length-padding n =
     (length-append (replicate (zeros n) 0) (bytes 8 (n * 8))
     ∙ cc (length-replicate {A = ℕ} (zeros n) 0, length-bytes-8 (n * 8)))
 
+pub padding-long : claim.PaddingLong
+padding-long n = omega (arith, length-padding n)
+
 pub padded-whole : claim.PaddedWhole
 padded-whole m = omega (arith, length-append m (padding (length m)), length-padding (length m))
 

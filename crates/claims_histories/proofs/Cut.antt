@@ -9,7 +9,6 @@ use native.Mathlib.Omega.{arith}
 use lib.ListN.{length, getD}
 use lib.Seq.{length-sets}
 use borrow.Author.Tests.{lt-ltb, le-ltb}
-use Rattle.refusal.specs.Settled.{row-settled}
 use Rattle.refusal.specs.declared.Answer.the-variants.{Done}
 use Rattle.notions.proofs.Tests.{cases, neither}
 use Rattle.layout.specs.declared.Region.{Region}
@@ -31,17 +30,17 @@ use Rattle.board.specs.Memory.{bytesAt, bytesOf, replyAt, replied}
 use Rattle.board.specs.Attestation.{due}
 use Rattle.board.specs.Promises.{Attests}
 use Rattle.board.proofs.Stores.{bytes-agree, stored-there, stored-off, stored-apart}
-use Rattle.board.proofs.Laws.{region-agrees, due-is, length-due, allowed-done, accepted-reply}
+use Rattle.board.proofs.Laws.{region-agrees, length-due, accepted-reply}
 use Rattle.claims_monitor.specs.Outside.{krOrXs}
 use Rattle.claims_monitor.specs.Traces.{remembers}
 use Rattle.claims_monitor.proofs.Traces.{resets-nothing}
 use Rattle.claims_attestation.proofs.Accepts.{accepts}
 use Rattle.claims_attestation.proofs.Demand2.{frame}
-use Rattle.claims_histories.specs.Visit.{cutAfter, made, SameOutside, played}
+use Rattle.claims_histories.specs.Visit.{cutAfter, SameOutside, played}
 use Rattle.claims_histories.specs.Cut as claim
 use Rattle.claims_histories.specs.Cut.{Uncounted, playedTo}
 use Rattle.claims_histories.proofs.Visit.{visit-passes, unheld-after, last-after, afterReply, all-replied}
-use Rattle.claims_histories.proofs.Visit.{off-scratch, made-none, cut-visit, played-makes, played-made}
+use Rattle.claims_histories.proofs.Visit.{off-scratch, cut-visit, played-makes, played-made}
 
 -- ---- answered and not counted
 
@@ -151,7 +150,10 @@ answered-again memory layout memory′ y y′ r h a u b =
     let w = accepts memory layout memory′ h a in (
       d,
       bytes-agree y′ memory′ (replyAt l) 32 (v .served .long ∙ u .request .long ∙ sym (w .served .long))
-          (λ i k. f .1 d (replyAt l + i) (simp (ends-within (record { lo = replyAt l; hi = replyAt l + 31 }) (replyAt l + i) (omega arith) (omega arith))))
+          (λ i k.
+          let s : Region = record { lo = replyAt l; hi = replyAt l + 31 } in
+          let e = ends-within s (replyAt l + i) (omega arith) (omega arith) in
+          f .1 d (replyAt l + i) (simp e))
           ∙ ap (replied l) (w .left)
           ∙ accepted-reply l (w .lies) memory (w .allowed .long),
     )

@@ -46,6 +46,7 @@ use Rattle.claims_histories.specs.Visit.{Free, Plays, storeByte, played}
 use Rattle.claims_histories.specs.Script.{encoded, scripted, script}
 use Rattle.monitor.proofs.Runs.{Alike, alike}
 use Rattle.claims_attestation.proofs.Accepts.{Accepts, accepts}
+use Rattle.claims_monitor.proofs.Outside.{nothing-lawful}
 use Rattle.claims_monitor.proofs.Runs.{in-parts}
 use Rattle.claims_monitor.proofs.Traces.{joined-before, release}
 use Rattle.claims_histories.proofs.Visit.{visit-passes, leaves-freely, keeps-memory, store-small, exact-visit}
@@ -109,7 +110,7 @@ played-addressed b h p memory i k =
       pc =
           small-pick (eqb i 63) (l .cr .hi) (l .cr .lo) memoryBytes (λ u. code-small b h .1) (λ u. code-small b h .0);
       cpuaddress = g;
-      dmaaddress = g;
+      dmaaddress = omega arith;
     }
 
 -- ---- attestation as a trace
@@ -174,14 +175,8 @@ module _ (memory layout memory′ : List ℕ) (h : Bytes layout) (a : Attests me
       (λ e.
       let q : i ≡ 64 = omega (arith, ltb-false i 64 e) in
       rw q (leaves-freely ly rest (released memory) 64 free-first (plays-rest .visit)
-      (zero-outside layout (call .allowed .laid)) .1 (record {
-        key = refl;
-        scratch = refl;
-        counter = refl;
-        dma-key = refl;
-        dma-scratch = refl;
-        dma-counter = refl;
-      })))
+      (zero-outside layout (call .allowed .laid))
+      .1 (nothing-lawful ly (at 0) (record { reads = refl; writes = refl; idle = refl }))))
 
   rest-leaves : before ly rest (released memory) 65 .memory ≡ memory′
   unfolding before

@@ -1,7 +1,7 @@
 -- The claims about visits to the attestation code hold. Assumes nothing.
 use mathlib.Core.Path.{_≡_, refl, sym, ap, subst, _∙_}
 use mathlib.Core.Logic.{_≢_, _⊎_, inl, inr}
-use mathlib.Core.Bool.{Bool, true, false, not, _&&_, _||_, and-false, or-true}
+use mathlib.Core.Bool.{Bool, true, false, not, _&&_, _||_, or-true}
 use mathlib.Core.List.{List}
 use Prim.Native.Nat.{ℕ, zero, suc, _+_, _-_, _≤_, _<_}
 use native.Mathlib.Nat.{not-suc-le-zero}
@@ -34,10 +34,10 @@ use Rattle.board.specs.Attestation.{due, accepted}
 use Rattle.board.specs.Promises.{Attests}
 use Rattle.board.proofs.Stores.{sets-more}
 use Rattle.board.proofs.Laws.{length-due, length-challenge}
-use Rattle.claims_monitor.proofs.Outside.{lawful, passes-if}
-use Rattle.claims_monitor.specs.Traces.{crOrKr, remembers, causeAt}
+use Rattle.claims_monitor.proofs.Outside as monitor
+use Rattle.claims_monitor.specs.Traces.{crOrKr, Inside, remembers, causeAt}
 use Rattle.claims_histories.specs.Visit as claim
-use Rattle.claims_histories.specs.Visit.{Inside, Begins, Free, storeAt, storeByte, cutAfter, storesOut, made}
+use Rattle.claims_histories.specs.Visit.{VisitBegins, Free, storeAt, storeByte, cutAfter, storesOut, made}
 use Rattle.claims_histories.specs.Visit.{StoresNext, Makes, SameOutside, Plays, writing, played, inserted}
 use Rattle.claims_attestation.proofs.Accepts.{Accepts, accepts}
 
@@ -82,10 +82,9 @@ leaves-freely l t x (suc n) f v o =
     let e = visit-passes l t x (suc n) f (v .begins) n (omega arith) in
     let q : n ≡ suc n - 1 = omega arith in
     let m = remembers l t x (suc n) in
-    let u = unheld-after l t x n e in
     let h : eqb (m .lastpc) (l .cr .hi) ≡ true =
     eq-eqb (m .lastpc) (l .cr .hi) (last-after l t x n e ∙ ap (λ (k : ℕ). t k .pc) q ∙ v .ends) in
-    (lawful l m (t (suc n)) o, passes-if l m (t (suc n)) o (simp u) (simp (h, and-false)))
+    monitor.outside l m (t (suc n)) (record { unheld = unheld-after l t x n e; last = simp (h, or-true) }) (simp o)
 
 -- ---- attestation as a visit
 
@@ -483,7 +482,7 @@ module _ (l : Layout) (memory : List ℕ) (t : ℕ → Step) (n k : ℕ) (s : St
       let q : i ≡ k + (i - k) = omega arith in
       rw q (made-behind (i - k))
 
-  begun : Begins l u (suc n)
+  begun : VisitBegins l u (suc n)
   begun = record {
     enters = ap (λ (r : Step). r .pc) (with-before t k s 0 some) ∙ plays .visit .begins .enters;
     each = λ i e.

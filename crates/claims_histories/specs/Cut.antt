@@ -21,7 +21,7 @@ use Rattle.board.specs.Promises.{Attests}
 use Rattle.claims_monitor.specs.Outside.{krOrXs}
 use Rattle.claims_monitor.specs.Traces.{causeAt, resetsAt}
 use Rattle.claims_attestation.specs.Demand2.{SameRequest}
-use Rattle.claims_histories.specs.Visit.{Free, Begins, cutAfter, made, Makes, played}
+use Rattle.claims_histories.specs.Visit.{Free, VisitBegins, cutAfter, made, Makes, played}
 
 -- ---- answered and not counted
 
@@ -63,7 +63,7 @@ pub record Cuts (l : Layout) (t : ℕ → Step) (x : State) (n : ℕ) : Type 0 w
 
 abbrev pub CutResets : Type 0
 CutResets =
-    (l : Layout) (t : ℕ → Step) (x : State) (n : ℕ) → Free l x → Begins l t n → 0 < n
+    (l : Layout) (t : ℕ → Step) (x : State) (n : ℕ) → Free l x → VisitBegins l t n → 0 < n
     → within (l .cr) (t n .pc) ≡ true → Cuts l t x n
 
 -- a reset behind the 32nd store, whatever its cause, leaves the board so

@@ -15,7 +15,7 @@ use Rattle.layout.specs.Layouts.{layoutOf}
 use Rattle.layout.specs.Good.{Good}
 use Rattle.layout.specs.Regions.{within, outside}
 use Rattle.steps.specs.declared.Step.{Step}
-use Rattle.rules.specs.Rules.{cpuWritesIn, writable}
+use Rattle.rules.specs.Rules.{cpuWritesIn}
 use Rattle.monitor.specs.Runs.{State, before}
 use Rattle.board.specs.Memory.{challenge, replyAt}
 use Rattle.board.specs.Attestation.{due}
@@ -23,26 +23,19 @@ use Rattle.board.specs.Promises.{Attests}
 use Rattle.claims_monitor.specs.Marked.{writes}
 use Rattle.claims_monitor.specs.Demand3.{withData}
 use Rattle.claims_monitor.specs.Outside.{Lawful}
-use Rattle.claims_monitor.specs.Traces.{causeAt, byteAt}
+use Rattle.claims_monitor.specs.Traces.{Inside, causeAt, byteAt}
 
 -- ---- a lawful visit
 
--- a step in the attestation code that breaks no rule: no interrupt, no DMA, and it writes only XS, MR and CTR
-pub record Inside (l : Layout) (s : Step) : Type 0 where
-  pub pc : within (l .cr) (s .pc) ≡ true
-  pub calm : s .interrupt ≡ false
-  pub idle : s .dmaactive ≡ false
-  pub writes : s .cpuwrites ≡ true → writable l (s .cpuaddress) ≡ true
-
--- n such steps from CR's lowest address on: a visit, or the beginning of one that is cut
-pub record Begins (l : Layout) (t : ℕ → Step) (n : ℕ) : Type 0 where
+-- n steps in CR that break no rule there, from its lowest address on: a visit, or the beginning of one that is cut
+pub record VisitBegins (l : Layout) (t : ℕ → Step) (n : ℕ) : Type 0 where
   pub enters : t 0 .pc ≡ l .cr .lo
   pub each : (i : ℕ) → i < n → Inside l (t i)
 
 -- a whole one ends at CR's highest address
 pub record Visit (l : Layout) (t : ℕ → Step) (n : ℕ) : Type 0 where
   pub some : 0 < n
-  pub begins : Begins l t n
+  pub begins : VisitBegins l t n
   pub ends : t (n - 1) .pc ≡ l .cr .hi
 
 -- the monitor is not held and the last PC was outside CR
@@ -53,7 +46,8 @@ pub record Free (l : Layout) (x : State) : Type 0 where
 -- no step of a visit resets, cut or whole
 abbrev pub VisitPasses : Type 0
 VisitPasses =
-    (l : Layout) (t : ℕ → Step) (x : State) (n : ℕ) → Free l x → Begins l t n → (i : ℕ) → i < n → causeAt l t x i ≡ 0
+    (l : Layout) (t : ℕ → Step) (x : State) (n : ℕ) → Free l x → VisitBegins l t n
+    → (i : ℕ) → i < n → causeAt l t x i ≡ 0
 
 -- a step outside CR that follows a whole one passes exactly if it is lawful by itself, as one that accesses nothing is
 abbrev pub LeavesFreely : Type 0
@@ -99,7 +93,7 @@ pub record StoresNext (l : Layout) (memory : List ℕ) (t : ℕ → Step) (i : �
 -- n steps of a visit, cut or whole, that makes the 64 stores in their order: each of its stores outside XS is the next
 -- of them. Reads, stores into XS and steps that access nothing may stand anywhere between
 pub record Makes (l : Layout) (memory : List ℕ) (t : ℕ → Step) (n : ℕ) : Type 0 where
-  pub begins : Begins l t n
+  pub begins : VisitBegins l t n
   pub next : (i : ℕ) → i < n → storesOut l (t i) ≡ true → StoresNext l memory t i
 
 -- two memories of one length with the same byte at every address outside XS

@@ -12,7 +12,9 @@ use lib.Seq.{take-append-le, drop-append-le, drop-append-add, getD-set-same, get
 use borrow.Author.Tests.{eqb-true, eqb-false, eq-eqb, ne-eqb, not-true, not-false}
 use Rattle.notions.specs.Choice.{pick}
 use Rattle.notions.specs.First.{first}
-use Rattle.refusal.specs.declared.Answer.the-variants.{Done}
+use Rattle.refusal.specs.Answers.{told, afterCall}
+use Rattle.refusal.specs.declared.Answer.{Answer}
+use Rattle.refusal.specs.declared.Answer.the-variants.{Done, Refused}
 use Rattle.notions.proofs.Tests.{cases, clash, both}
 use Rattle.layout.specs.declared.Layout.{Layout}
 use Rattle.layout.specs.Layouts.{XS, MR, CTR, AR, layoutOf, layoutCheck}
@@ -33,16 +35,16 @@ use Rattle.monitor.specs.declared.Stepped.the-variants as stepped
 use Rattle.monitor.specs.declared.Totals.{Totals}
 use Rattle.monitor.specs.declared.Traced.the-variants as traced
 use Rattle.effects.specs.Effects.{cpuExposed, dmaExposed, exposing, answer, bytes, lands, stored, storing, written}
-use Rattle.monitor.specs.Runs.{State, begin, before, said, resetting}
+use Rattle.monitor.specs.Runs.{State, begin, turn, before, said, resetting}
 use Rattle.traces.specs.Traces.{stepSize, answerSize, count, stepBytes, steps}
 use Rattle.monitor.specs.Runs.{totals}
 use Rattle.monitor.specs.Settled.{stepped-row-settled}
 use Rattle.effects.proofs.Laws.{written-byte}
 use Rattle.monitor.proofs.Laws.{length-before, answer-at}
-use Rattle.monitor.proofs.Checks.{traced-judged}
+use Rattle.monitor.proofs.Checks.{traced-judged, stepped-judged}
 use Rattle.traces.proofs.Checks.{Fitting, trace-passed, one-step, one-passes}
 use Rattle.traces.specs.Traces.{traceCheck, stepCheck}
-use Rattle.monitor.specs.Promises.{Traces}
+use Rattle.monitor.specs.Promises.{stepCallCheck, remembered, steppedRow, Traces}
 use Rattle.claims_monitor.specs.Traces as claim
 use Rattle.claims_monitor.specs.Traces.{crOrKr, ctrOrXs, remembers, causeAt, resetsAt, byteAt}
 use Rattle.claims_monitor.proofs.Runs.{in-parts}
@@ -162,11 +164,15 @@ runs-alone l t x n z r i =
     let u = inside-unheld l m s z i r in
     record {
       unheld = u;
-      calm = passes-only l m s r 4 (omega arith) (s .interrupt) (λ h. simp (u, h, i));
-      idle = passes-only l m s r 9 (omega arith) (s .dmaactive) (λ h. simp (u, h, i));
-      kept = λ w.
-          not-false (writable l (s .cpuaddress))
-          (passes-only l m s r 6 (omega arith) (not (writable l (s .cpuaddress))) (λ h. simp u (rule-6 l s ∙ simp (i, w, h))));
+      inside = record {
+        pc = i;
+        calm = passes-only l m s r 4 (omega arith) (s .interrupt) (λ h. simp (u, h, i));
+        idle = passes-only l m s r 9 (omega arith) (s .dmaactive) (λ h. simp (u, h, i));
+        writes = λ w.
+            not-false (writable l (s .cpuaddress))
+            (passes-only l m s r 6 (omega arith) (not (writable l (s .cpuaddress)))
+            (λ h. simp u (rule-6 l s ∙ simp (i, w, h))));
+      };
     }
 
 pub guarded-alone : claim.GuardedAlone
@@ -201,10 +207,10 @@ attested-step l z t x n a o i =
       | inl stays ↦ stays
       | inr (inl c) ↦
           let w = lands-on l (s .cpuwrites) (s .cpuaddress) (c .lands) in
-          clash (writable l a) (rw (sym (c .address)) (runs-alone l t x n z (c .passes) i .kept w)) o
+          clash (writable l a) (rw (sym (c .address)) (runs-alone l t x n z (c .passes) i .inside .writes w)) o
       | inr (inr d) ↦
           let on = lands-on l (s .dmaactive && s .dmawrites) (s .dmaaddress) (d .lands) in
-          clash (s .dmaactive) (both (s .dmaactive) (s .dmawrites) on .0) (runs-alone l t x n z (d .passes) i .idle)
+          clash (s .dmaactive) (both (s .dmaactive) (s .dmawrites) on .0) (runs-alone l t x n z (d .passes) i .inside .idle)
     ]
 
 pub attested-stays : claim.AttestedStays
@@ -357,6 +363,70 @@ parts-of-bytes l b c x n k e =
     in-parts l (steps (b ++ c)) (steps b) (steps c) x n k (j .first) (λ i h. j .second i)
 
 -- ---- a trace by one-step calls
+
+-- what a call answers whose check says so, and that then remembers m
+called : Answer → Monitor → Stepped
+called Done m = stepped.Judged m
+called (Refused q) m = stepped.Refused q
+
+called-row : (a : Answer) (m : Monitor) → steppedRow (called a m) ≡ told a (remembered m)
+unfolding called
+called-row Done m = refl
+called-row (Refused q) m = refl
+
+module _ (memory layout trace : List ℕ) (rooms : ℕ → List ℕ) where
+  -- call i where x stands: its check, and what it decides if that refuses nothing
+  abbrev checked : ℕ → State → Answer
+  checked i x = stepCallCheck (x .memory) layout (stepBytes trace i) (rooms i)
+
+  abbrev decided : ℕ → State → State
+  decided i x = turn (layoutOf layout) (steps (stepBytes trace i) 0) x
+
+  -- what stands before call i
+  lent : ℕ → State
+  lent zero = begin memory
+  lent (suc i) = record {
+    monitor = decided i (lent i) .monitor;
+    memory = afterCall (checked i (lent i)) (decided i (lent i) .memory) (lent i .memory);
+  }
+
+  abbrev answers : ℕ → Stepped
+  answers i = called (checked i (lent i)) (decided i (lent i) .monitor)
+
+  abbrev rooms-left : ℕ → List ℕ
+  rooms-left i =
+      let x = lent i in
+      afterCall (checked i x)
+      (bytes (decidedAnswer (layoutOf layout) (x .monitor) (steps (stepBytes trace i) 0) (x .memory))
+      ++ drop answerSize (rooms i))
+      (rooms i)
+
+  can-call : ((i : ℕ) → i < count trace → answerSize ≤ length (rooms i))
+      → claim.Calls memory layout trace (λ i. lent i .monitor) (λ i. lent i .memory) rooms rooms-left answers
+  unfolding lent
+  can-call f = record {
+    starts = refl;
+    lends = refl;
+    fits = f;
+    calls = λ i h. record {
+      answered = called-row (checked i (lent i)) (decided i (lent i) .monitor);
+      memory-left = refl;
+      room-left = refl;
+    };
+    hands = λ i h m e.
+        let a = checked i (lent i) in
+        let n = decided i (lent i) .monitor in
+        sym (stepped-judged a m n (sym (ap steppedRow e) ∙ called-row a n) .1);
+  }
+
+pub can-be-called : claim.CanBeCalled
+can-be-called memory layout trace rooms f = (
+  λ i. lent memory layout trace rooms i .monitor,
+  λ i. lent memory layout trace rooms i .memory,
+  rooms-left memory layout trace rooms,
+  answers memory layout trace rooms,
+  can-call memory layout trace rooms f,
+)
 
 module _ (memory layout trace room memory′ room′ : List ℕ) (total : Totals)
     (monitors : ℕ → Monitor) (memories rooms rooms′ : ℕ → List ℕ) (r : ℕ → Stepped)

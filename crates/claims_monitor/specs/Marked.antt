@@ -35,13 +35,13 @@ pub record PageLayout : Type 0 where
 
 -- ---- steps, in the table's words
 
--- a step by its PC, its flags in the page's order (CPU read, CPU write, interrupt, DMA active, DMA writes) and an
--- address for CPU and DMA
-abbrev step : ℕ → Bool → Bool → Bool → Bool → Bool → ℕ → Step
-step pc r w i d e a = record {
+-- a step by its PC, its flags in the page's order (CPU read, CPU write, interrupt, DMA active, DMA writes), CPU address
+-- and DMA address; below, the address of the one that accesses nothing is 0
+abbrev step : ℕ → Bool → Bool → Bool → Bool → Bool → ℕ → ℕ → Step
+step pc r w i d e cpu dma = record {
   pc = pc;
-  cpuaddress = a;
-  dmaaddress = a;
+  cpuaddress = cpu;
+  dmaaddress = dma;
   cpureads = r;
   cpuwrites = w;
   interrupt = i;
@@ -52,22 +52,26 @@ step pc r w i d e a = record {
 }
 
 abbrev pub at : ℕ → Step
-at pc = step pc false false false false false 0
+at pc = step pc false false false false false 0 0
 
 abbrev pub reads : ℕ → ℕ → Step
-reads pc a = step pc true false false false false a
+reads pc a = step pc true false false false false a 0
 
 abbrev pub writes : ℕ → ℕ → Step
-writes pc a = step pc false true false false false a
+writes pc a = step pc false true false false false a 0
 
 abbrev pub interrupted : ℕ → Step
-interrupted pc = step pc false false true false false 0
+interrupted pc = step pc false false true false false 0 0
 
 abbrev pub dmaReads : ℕ → ℕ → Step
-dmaReads pc a = step pc false false false true false a
+dmaReads pc a = step pc false false false true false 0 a
 
 abbrev pub dmaStores : ℕ → ℕ → Step
-dmaStores pc a = step pc false false false true true a
+dmaStores pc a = step pc false false false true true 0 a
+
+-- flag bit 4 without bit 3
+abbrev pub bit4Alone : ℕ → ℕ → Step
+bit4Alone pc a = step pc false false false false true 0 a
 
 -- ---- the table
 

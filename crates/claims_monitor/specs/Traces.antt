@@ -94,13 +94,17 @@ Guarded =
     (l : Layout) (t : ℕ → Step) (x : State) (n a : ℕ) → ctrOrXs l a ≡ true
     → (byteAt l t x (suc n) a ≡ byteAt l t x n a) ⊎ CodeStores l t x n a
 
--- the attestation code runs alone: the monitor is not held, no interrupt, the DMA idle, and no CPU write outside XS, MR
--- and CTR
+-- a step in the attestation code that breaks no rule there: no interrupt, no DMA, and it writes only XS, MR and CTR
+pub record Inside (l : Layout) (s : Step) : Type 0 where
+  pub pc : within (l .cr) (s .pc) ≡ true
+  pub calm : s .interrupt ≡ false
+  pub idle : s .dmaactive ≡ false
+  pub writes : s .cpuwrites ≡ true → writable l (s .cpuaddress) ≡ true
+
+-- so the attestation code runs alone, with a monitor that is not held
 pub record Alone (l : Layout) (t : ℕ → Step) (x : State) (n : ℕ) : Type 0 where
   pub unheld : remembers l t x n .held ≡ false
-  pub calm : t n .interrupt ≡ false
-  pub idle : t n .dmaactive ≡ false
-  pub kept : t n .cpuwrites ≡ true → writable l (t n .cpuaddress) ≡ true
+  pub inside : Inside l (t n)
 
 -- where CR does not hold 0, it does in each step with PC in CR that does not reset
 abbrev pub RunsAlone : Type 0
@@ -236,6 +240,13 @@ pub record Calls (memory layout trace : List ℕ) (monitors : ℕ → Monitor) (
   pub calls : (i : ℕ) → i < count trace
       → Steps (memories i) layout (stepBytes trace i) (monitors i) (rooms i) (memories (suc i)) (rooms′ i) (r i)
   pub hands : (i : ℕ) → i < count trace → (m : Monitor) → r i ≡ stepped.Judged m → monitors (suc i) ≡ m
+
+-- there are such calls for every memory, layout and trace, and for all rooms of at least four bytes
+abbrev pub CanBeCalled : Type 0
+CanBeCalled =
+    (memory layout trace : List ℕ) (rooms : ℕ → List ℕ) → ((i : ℕ) → i < count trace → answerSize ≤ length (rooms i))
+    → (monitors : ℕ → Monitor) × (memories : ℕ → List ℕ) × (rooms′ : ℕ → List ℕ) × (r : ℕ → Stepped)
+    × Calls memory layout trace monitors memories rooms rooms′ r
 
 -- how many of the first n calls handed back a monitor that is held
 unfoldable pub heldAfter : (ℕ → Monitor) → ℕ → ℕ

@@ -1,14 +1,16 @@
 -- The claims about visits that are cut hold. Assumes nothing.
 use mathlib.Core.Path.{_≡_, refl, sym, ap, subst, _∙_}
-use mathlib.Core.Logic.{inl, inr}
-use mathlib.Core.Bool.{true, false, _||_, and-false}
-use mathlib.Core.List.{List}
-use Prim.Native.Nat.{ℕ, zero, suc, _+_, _≤_, _<_}
+use mathlib.Core.Logic.{_⊎_, inl, inr}
+use mathlib.Core.Bool.{true, false, _||_, and-false, false≢true}
+use mathlib.Core.List.{List, [], _∷_, _++_, append-assoc}
+use Prim.Native.Nat.{ℕ, zero, suc, _+_, _-_, _≤_, _<_}
 use native.Mathlib.Nat.{not-suc-le-zero}
 use native.Mathlib.Omega.{arith}
-use lib.ListN.{length, getD}
-use lib.Seq.{length-sets}
-use borrow.Author.Tests.{lt-ltb, le-ltb}
+use lib.Dec.{eqb, ltb}
+use lib.ListN.{length, getD, take, drop, length-take, length-drop}
+use lib.Seq.{sets, length-sets, length-take-le, sets-eq, take-add, take-append-add, drop-at, drop-drop}
+use borrow.Author.Tests.{eqb-true, ltb-true, ltb-false, lt-ltb, le-ltb}
+use Rattle.notions.specs.Bytes.{Bytes}
 use Rattle.refusal.specs.declared.Answer.the-variants.{Done}
 use Rattle.notions.proofs.Tests.{cases, neither}
 use Rattle.layout.specs.declared.Region.{Region}
@@ -26,21 +28,23 @@ use Rattle.rules.proofs.Laws.{rule-6, cause-lowest}
 use Rattle.monitor.specs.Decisions.{resets}
 use Rattle.monitor.specs.Runs.{before}
 use Rattle.monitor.proofs.Decisions.{breaks-resets}
-use Rattle.board.specs.Memory.{bytesAt, bytesOf, replyAt, replied}
+use Rattle.routine.specs.Strings.{greater}
+use Rattle.board.specs.Memory.{bytesAt, bytesOf, counter, challenge, replyAt, replied}
 use Rattle.board.specs.Attestation.{due}
 use Rattle.board.specs.Promises.{Attests}
 use Rattle.board.proofs.Stores.{bytes-agree, stored-there, stored-off, stored-apart}
-use Rattle.board.proofs.Laws.{region-agrees, length-due, accepted-reply}
+use Rattle.board.proofs.Laws.{region-agrees, length-due, length-challenge, accepted-reply}
 use Rattle.claims_monitor.specs.Outside.{krOrXs}
 use Rattle.claims_monitor.specs.Traces.{remembers}
 use Rattle.claims_monitor.proofs.Traces.{resets-nothing}
-use Rattle.claims_attestation.proofs.Accepts.{accepts}
+use Rattle.claims_attestation.proofs.Accepts.{Accepts, accepts}
 use Rattle.claims_attestation.proofs.Demand2.{frame}
 use Rattle.claims_histories.specs.Visit.{cutAfter, SameOutside, played}
 use Rattle.claims_histories.specs.Cut as claim
 use Rattle.claims_histories.specs.Cut.{Uncounted, playedTo}
 use Rattle.claims_histories.proofs.Visit.{visit-passes, unheld-after, last-after, afterReply, all-replied}
-use Rattle.claims_histories.proofs.Visit.{off-scratch, cut-visit, played-makes, played-made}
+use Rattle.claims_histories.proofs.Visit.{reply-stored, counter-stored, off-scratch, cut-visit, played-makes}
+use Rattle.claims_histories.proofs.Visit.{played-made}
 
 -- ---- answered and not counted
 
@@ -157,6 +161,104 @@ answered-again memory layout memory′ y y′ r h a u b =
           ∙ ap (replied l) (w .left)
           ∙ accepted-reply l (w .lies) memory (w .allowed .long),
     )
+
+-- ---- cut anywhere
+
+-- the first bytes of a greater string over those of another
+torn : (c n : List ℕ) (j : ℕ) → greater c n ≡ true
+    → (take j c ++ drop j n ≡ n) ⊎ (greater (take j c ++ drop j n) n ≡ true)
+unfolding greater
+torn c n zero g = inl refl
+torn [] n (suc j) g = absurd (false≢true g)
+torn (x ∷ c) [] (suc j) g = inr refl
+torn (x ∷ c) (y ∷ n) (suc j) g =
+    cases (eqb x y)
+    (λ e.
+    elim (torn c n j (simp e at g)) [
+      | inl h ↦ inl (let q = eqb-true x y e in cc)
+      | inr h ↦ inr (simp (e, h))
+    ])
+    (λ e. inr (simp e (simp e at g)))
+
+-- what is read where fewer bytes were stored
+stored-over : (l : List ℕ) (a m : ℕ) (v : List ℕ) → a + (length v + m) ≤ length l
+    → bytesAt a (length v + m) (sets l a v) ≡ v ++ drop (length v) (bytesAt a (length v + m) l)
+stored-over l a m v h =
+    let r : List ℕ = drop (a + length v) l in
+    let n = length v in
+    let f : take (n + m) (drop a l) ≡ take n (drop a l) ++ take m (drop n (drop a l)) = take-add n m (drop a l) in
+    let s : length (take n (drop a l)) ≡ n = simp (length-take, length-drop) (omega arith) in
+    ap (bytesAt a (n + m)) (sets-eq v l a (omega arith) ∙ append-assoc (take a l) v r)
+    ∙ ap (take (n + m)) (drop-at (take a l) (v ++ r) a (simp length-take (omega arith)))
+    ∙ take-append-add v r m
+    ∙ ap (λ (t : List ℕ). v ++ t)
+    (sym (ap (drop n) f ∙ drop-at (take n (drop a l)) (take m (drop n (drop a l))) n s
+    ∙ ap (take m) (drop-drop n a l)))
+
+module _ (memory layout memory′ : List ℕ) (h : Bytes layout) (a : Attests memory layout memory′ Done) where
+  abbrev lc : Layout
+  lc = layoutOf layout
+
+  call : Accepts memory layout memory′
+  call = accepts memory layout memory′ h a
+
+  -- the memory with the reply
+  abbrev after : List ℕ
+  after = afterReply lc memory
+
+  replied-so : Uncounted lc memory after
+  replied-so = replied-only lc (call .lies) (region-off layout (call .good) .1) memory (call .allowed .long)
+
+  length-is : length (challenge lc memory) ≡ 32
+  length-is = length-challenge lc (call .lies) memory (call .allowed .long)
+
+  -- up to the reply's last byte
+  counter-waits : (k : ℕ) → k ≤ 32 → counter lc (cutAfter lc memory k) ≡ counter lc memory
+  counter-waits k q =
+      let s = call .lies .counter in
+      let n : length (take k (due lc memory)) ≤ 32 = simp length-take (omega (arith, length-due lc memory)) in
+      ap (counter lc) (reply-stored lc memory k q)
+      ∙ stored-apart memory (replyAt lc) (take k (due lc memory)) (lc .ctr .lo) (size (lc .ctr))
+      (elim (call .lies .apart) [ inl u ↦ inr (omega arith) | inr u ↦ inl (omega arith) ])
+
+  -- and from there
+  counter-torn : (j : ℕ) → j ≤ 32
+      → counter lc (cutAfter lc memory (32 + j)) ≡ take j (challenge lc memory) ++ drop j (counter lc memory)
+  counter-torn j q =
+      let v = take j (challenge lc memory) in
+      let n : length v ≡ j = length-take-le j (challenge lc memory) (omega (arith, length-is)) in
+      let s : size (lc .ctr) ≡ length v + (32 - j) = call .lies .counter ∙ omega (arith, n) in
+      ap (counter lc) (counter-stored lc memory length-is j q)
+      ∙ ap (λ (m : ℕ). bytesAt (lc .ctr .lo) m (sets after (lc .ctr .lo) v)) s
+      ∙ stored-over after (lc .ctr .lo) (32 - j) v
+      (omega (arith, n, replied-so .request .long, call .allowed .long, call .lies .counter-in))
+      ∙ ap (λ (m : ℕ). v ++ drop m (bytesAt (lc .ctr .lo) (length v + (32 - j)) after)) n
+      ∙ ap (λ (m : ℕ). v ++ drop j (bytesAt (lc .ctr .lo) m after)) (sym s)
+      ∙ ap (λ (b : List ℕ). v ++ drop j b) (replied-so .request .counter)
+
+pub cut-rises : claim.CutRises
+cut-rises memory layout memory′ k h a q =
+    let l = layoutOf layout in
+    cases (ltb 32 k)
+    (λ t.
+    let u = ltb-true 32 k t in
+    let e : k ≡ 32 + (k - 32) = omega arith in
+    rw (e, counter-torn memory layout memory′ h a (k - 32) (omega arith))
+    (torn (challenge l memory) (counter l memory) (k - 32) (accepts memory layout memory′ h a .allowed .fresh)))
+    (λ t. inl (counter-waits memory layout memory′ h a k (ltb-false 32 k t)))
+
+pub cut-replied : claim.CutReplied
+cut-replied memory layout memory′ k h a p q =
+    let l = layoutOf layout in
+    let w = accepts memory layout memory′ h a in
+    let e : k ≡ 32 + (k - 32) = omega arith in
+    let v = take (k - 32) (challenge l memory) in
+    let n : length v ≤ 32 = simp length-take (omega arith) in
+    ap (λ (m : ℕ). replied l (cutAfter l memory m)) e
+    ∙ ap (replied l) (counter-stored l memory (length-is memory layout memory′ h a) (k - 32) (omega arith))
+    ∙ stored-apart (afterReply l memory) (l .ctr .lo) v (replyAt l) 32
+    (elim (w .lies .apart) [ inl u ↦ inl (omega arith) | inr u ↦ inr (omega arith) ])
+    ∙ replied-so memory layout memory′ h a .reply
 
 -- ---- what cuts a visit
 

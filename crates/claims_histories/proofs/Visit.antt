@@ -155,7 +155,7 @@ module _ (l : Layout) (memory : List ℕ) where
   unfolding cutAfter
   cut-more k = refl
 
-  reply-stored : (i : ℕ) → i ≤ 32 → cutAfter l memory i ≡ sets memory (replyAt l) (take i (due l memory))
+  pub reply-stored : (i : ℕ) → i ≤ 32 → cutAfter l memory i ≡ sets memory (replyAt l) (take i (due l memory))
   reply-stored zero k = cut-none
   reply-stored (suc i) k =
       cut-more i
@@ -171,7 +171,7 @@ module _ (l : Layout) (memory : List ℕ) where
       ∙ ap (sets memory (replyAt l)) (take-all 32 (due l memory) (omega (arith, length-due l memory)))
 
   module _ (c : length (challenge l memory) ≡ 32) where
-    counter-stored : (j : ℕ) → j ≤ 32
+    pub counter-stored : (j : ℕ) → j ≤ 32
         → cutAfter l memory (32 + j) ≡ sets afterReply (l .ctr .lo) (take j (challenge l memory))
     counter-stored zero k = all-replied
     counter-stored (suc j) k =

@@ -1,6 +1,7 @@
--- A visit that is cut between the reply's last byte and the counter's first: the board has answered and not counted.
+-- A visit that is cut: between the reply's last byte and the counter's first the board has answered and not counted.
 -- Definitions and claims; the proofs are in proofs/Cut.antt. Assumes nothing.
 use mathlib.Core.Path.{_≡_}
+use mathlib.Core.Logic.{_⊎_}
 use mathlib.Core.Bool.{true, false, _||_}
 use mathlib.Core.List.{List}
 use Prim.Native.Nat.{ℕ, suc, _≤_, _<_}
@@ -15,7 +16,8 @@ use Rattle.layout.specs.Regions.{within}
 use Rattle.steps.specs.declared.Step.{Step}
 use Rattle.rules.specs.Rules.{writable}
 use Rattle.monitor.specs.Runs.{State, before}
-use Rattle.board.specs.Memory.{replied}
+use Rattle.routine.specs.Strings.{greater}
+use Rattle.board.specs.Memory.{counter, replied}
 use Rattle.board.specs.Attestation.{due}
 use Rattle.board.specs.Promises.{Attests}
 use Rattle.claims_monitor.specs.Outside.{krOrXs}
@@ -50,6 +52,23 @@ AnsweredAgain =
     (memory layout memory′ y y′ : List ℕ) (r : Answer) → Bytes layout → Attests memory layout memory′ Done
     → Uncounted (layoutOf layout) memory y → Attests y layout y′ r
     → (r ≡ Done) × (replied (layoutOf layout) y′ ≡ due (layoutOf layout) memory)
+
+-- ---- cut anywhere
+
+-- after any number of the 64 stores the counter is as it was or has risen; the half of a greater challenge may stand in
+-- it, so it may still be below the challenge, or above it
+abbrev pub CutRises : Type 0
+CutRises =
+    (memory layout memory′ : List ℕ) (k : ℕ) → Bytes layout → Attests memory layout memory′ Done → k ≤ 64
+    → (let l = layoutOf layout in
+    let y = cutAfter l memory k in
+    (counter l y ≡ counter l memory) ⊎ (greater (counter l y) (counter l memory) ≡ true))
+
+-- and after 32 or more the reply is there
+abbrev pub CutReplied : Type 0
+CutReplied =
+    (memory layout memory′ : List ℕ) (k : ℕ) → Bytes layout → Attests memory layout memory′ Done → 32 ≤ k → k ≤ 64
+    → replied (layoutOf layout) (cutAfter (layoutOf layout) memory k) ≡ due (layoutOf layout) memory
 
 -- ---- what cuts a visit
 

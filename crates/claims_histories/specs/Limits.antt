@@ -1,6 +1,6 @@
 -- What the counter's history rests on: the counter is kept, the layout stays, a visit runs to its end. Where one of
--- these three fails, an old request is accepted again, or a check stands in the wrong order. Definitions and claims; the
--- proofs are in proofs/Limits.antt. Assumes nothing.
+-- these three fails, an old request is accepted again, or a check stands in the wrong order. Definitions and claims;
+-- the proofs are in proofs/Limits.antt. Assumes nothing.
 use mathlib.Core.Path.{_≡_}
 use mathlib.Core.Bool.{true, false}
 use mathlib.Core.List.{List, [], _∷_, _++_}

@@ -8,7 +8,7 @@ use native.Mathlib.Omega.{arith}
 use lib.ListN.{length, get_or, length-take, length-drop}
 use lib.Seq.{sets, length-sets}
 use Rattle.notions.specs.Bytes.{Bytes}
-use Rattle.refusal.specs.Settled.{row_settled}
+use Rattle.refusal.proofs.Settled.{row_settled}
 use Rattle.refusal.specs.declared.Refusal.{Refusal}
 use Rattle.refusal.specs.declared.Answer.TheVariants.{Done, Refused}
 use Rattle.notions.proofs.Bytes.{bytes_sets}

@@ -1,4 +1,6 @@
 // Attestation on a board's memory.
+#![tactic(auto)]
+
 ghost use Rattle.std.specs.Prelude.{◌≡◌, ◌+◌, ◌≤◌, ◌<◌, length};
 ghost use Rattle.refusal.specs.Answers.{row, after_call};
 ghost use Rattle.layout.specs.Regions.{size};

@@ -1,5 +1,7 @@
 // Makes the calls that standard input lists, one after another, and prints what came back of each. docs/CALLS.md says
 // how a call is written, and what is printed of it.
+#![tactic(auto)]
+
 mod attesting;
 mod files;
 mod hashing;

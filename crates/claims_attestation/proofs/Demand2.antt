@@ -10,7 +10,7 @@ use lib.ListN.{length, get_or}
 use Rattle.notions.specs.Bytes.{Bytes}
 use Rattle.refusal.specs.Answers.{row, refused_at}
 use Rattle.refusal.specs.Numbers.{regions_share, challenge_not_greater, token_differs}
-use Rattle.refusal.specs.Settled.{row_settled}
+use Rattle.refusal.proofs.Settled.{row_settled}
 use Rattle.refusal.specs.declared.Answer.{Answer}
 use Rattle.refusal.specs.declared.Answer.TheVariants.{Done, Refused}
 use Rattle.refusal.proofs.Order.{refuses_none}

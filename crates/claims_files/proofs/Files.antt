@@ -28,7 +28,7 @@ use Rattle.traces.specs.Traces.{step_size, answer_size, count, steps}
 use Rattle.monitor.specs.Runs.{begin, said, resetting, room_after, totals}
 use Rattle.traces.specs.Traces.{most_steps, first_unclean, trace_check}
 use Rattle.monitor.specs.Promises.{totals_values, traced_row, Traces}
-use Rattle.monitor.specs.Settled.{traced_row_settled}
+use Rattle.monitor.proofs.Settled.{traced_row_settled}
 use Rattle.monitor.proofs.Checks.{traced_judged, traced_refused}
 use Rattle.file_contents.specs.Contents.{layout_entry, memory_entry, trace_entry, largest_file, entries, first_failing}
 use Rattle.file_contents.specs.Contents.{file_check, body}

@@ -38,7 +38,7 @@ use Rattle.board.proofs.Laws.{length_bytes_lem, region_agrees, length_challenge,
 use Rattle.station.specs.declared.Verdict.{Verdict}
 use Rattle.station.specs.declared.Verdict.TheVariants.{Yes}
 use Rattle.station.specs.Promises.{ChecksReply}
-use Rattle.station.specs.Settled.{checks_reply_settled}
+use Rattle.station.proofs.Settled.{checks_reply_settled}
 use Rattle.claims_monitor.specs.Traces.{remembers, byte_at}
 use Rattle.claims_attestation.specs.Demand2.{Agrees, posted}
 use Rattle.claims_histories.specs.History as claim

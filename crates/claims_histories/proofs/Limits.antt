@@ -11,7 +11,7 @@ use Rattle.notions.specs.Bytes.{Bytes}
 use Rattle.notions.specs.First.{first}
 use Rattle.notions.proofs.Bytes.{bytes_cons}
 use Rattle.notions.proofs.Tests.{untrue, both}
-use Rattle.refusal.specs.Settled.{row_settled}
+use Rattle.refusal.proofs.Settled.{row_settled}
 use Rattle.refusal.specs.declared.Answer.TheVariants.{Done}
 use Rattle.layout.specs.declared.Region.{Region}
 use Rattle.layout.specs.Regions.{within, size}

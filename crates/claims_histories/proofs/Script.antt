@@ -33,7 +33,7 @@ use Rattle.monitor.specs.Runs.{State, begin, before, resetting}
 use Rattle.traces.specs.Traces.{step_size, answer_size, count, step_bytes, steps}
 use Rattle.traces.specs.Traces.{most_steps, unclean, trace_check}
 use Rattle.monitor.specs.Promises.{Traces}
-use Rattle.monitor.specs.Settled.{traced_row_settled}
+use Rattle.monitor.proofs.Settled.{traced_row_settled}
 use Rattle.board.specs.Memory.{challenge}
 use Rattle.board.specs.Attestation.{due}
 use Rattle.board.specs.Promises.{Attests}

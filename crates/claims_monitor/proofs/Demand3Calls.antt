@@ -19,7 +19,7 @@ use Rattle.traces.specs.Traces.{step_size, count, step_bytes, steps}
 use Rattle.monitor.specs.Decisions.{decided_memory}
 use Rattle.monitor.specs.Runs.{begin, before, memory_after}
 use Rattle.traces.specs.Traces.{unclean, trace_check, step_check}
-use Rattle.monitor.specs.Settled.{traced_row_settled, stepped_row_settled}
+use Rattle.monitor.proofs.Settled.{traced_row_settled, stepped_row_settled}
 use Rattle.traces.proofs.Laws.{step_byte}
 use Rattle.claims_monitor.specs.Demand3.{Agree, stores_scratch, with_data, blank, cpu_data, SameTrace, EitherTells}
 use Rattle.claims_monitor.specs.Demand3.{Demand3Calls, Demand3Steps}

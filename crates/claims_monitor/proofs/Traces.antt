@@ -38,7 +38,7 @@ use Rattle.effects.specs.Effects.{cpu_exposed, dma_exposed, exposing, answer, by
 use Rattle.monitor.specs.Runs.{State, begin, turn, before, said, resetting}
 use Rattle.traces.specs.Traces.{step_size, answer_size, count, step_bytes, steps}
 use Rattle.monitor.specs.Runs.{totals}
-use Rattle.monitor.specs.Settled.{stepped_row_settled}
+use Rattle.monitor.proofs.Settled.{stepped_row_settled}
 use Rattle.effects.proofs.Laws.{written_byte}
 use Rattle.monitor.proofs.Laws.{length_before, answer_at_lem}
 use Rattle.monitor.proofs.Checks.{traced_judged, stepped_judged}

@@ -31,7 +31,7 @@ use Rattle.reader.specs.declared.Read.{Read}
 use Rattle.reader.specs.declared.Read.TheVariants as read
 use Rattle.reader.specs.declared.StepReader.{StepReader}
 use Rattle.reader.specs.Reading.{read_at, place_after}
-use Rattle.reader.specs.Settled.{read_row_settled}
+use Rattle.reader.proofs.Settled.{read_row_settled}
 use Rattle.claims_reading.specs.Whole.{Reading, HandsOut, CanBeRead, ReadsWhole, JudgesWhatIsRead, ReadsToUnclean, ReadsNothing}
 use Rattle.reader.proofs.Laws.{read_nothing, read_end, read_unclean, read_step, IsStep}
 

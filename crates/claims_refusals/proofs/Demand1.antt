@@ -10,7 +10,7 @@ use lib.ListN.{length, get_or}
 use borrow.Author.Tests.{not-true, not-false}
 use Rattle.notions.specs.Choice.{pick}
 use Rattle.notions.specs.First.{first}
-use Rattle.refusal.specs.Settled.{row_settled}
+use Rattle.refusal.proofs.Settled.{row_settled}
 use Rattle.refusal.specs.Answers as A
 use Rattle.refusal.specs.Answers.{refused_if, refused_at, told}
 use Rattle.refusal.specs.Numbers.{trace_size, step_not_zero}
@@ -24,7 +24,7 @@ use Rattle.layout.specs.Layouts.{CR, KR, MR, CTR, AR, region, layout_of, wrong_s
 use Rattle.layout.specs.declared.Checked.{Checked}
 use Rattle.layout.specs.declared.Checked.TheVariants as checked
 use Rattle.layout.specs.Promises as layouts
-use Rattle.layout.specs.Settled as settled
+use Rattle.layout.proofs.Settled as settled
 use Rattle.layout.specs.Calls.{call_check}
 use Rattle.layout.proofs.Laws.{within_ends, ends_within, shares_exactly}
 use Rattle.steps.specs.declared.Step.{Step}
@@ -33,7 +33,7 @@ use Rattle.monitor.specs.declared.Stepped.{Stepped}
 use Rattle.monitor.specs.declared.Stepped.TheVariants as stepped
 use Rattle.monitor.specs.declared.Traced.{Traced}
 use Rattle.monitor.specs.declared.Traced.TheVariants as traced
-use Rattle.monitor.specs.Settled.{traced_row_settled, stepped_row_settled}
+use Rattle.monitor.proofs.Settled.{traced_row_settled, stepped_row_settled}
 use Rattle.traces.specs.Traces.{count, steps}
 use Rattle.monitor.specs.Runs.{totals}
 use Rattle.traces.specs.Traces.{misfits, unclean, trace_check, step_check}
@@ -43,7 +43,7 @@ use Rattle.reader.specs.declared.Read.{Read}
 use Rattle.reader.specs.declared.Read.TheVariants as read
 use Rattle.reader.specs.Reading as reads
 use Rattle.reader.specs.Reading.{read_at, place_after, step_values, read_row}
-use Rattle.reader.specs.Settled.{read_row_settled}
+use Rattle.reader.proofs.Settled.{read_row_settled}
 use Rattle.hmac.specs.Hmac.{hmac}
 use Rattle.routine.specs.Strings.{same, greater}
 use Rattle.routine.specs.Routine.{token, reply, request_check}
@@ -53,7 +53,7 @@ use Rattle.board.specs.Attestation.{request_check_in, attest_check}
 use Rattle.station.specs.declared.Verdict.{Verdict}
 use Rattle.station.specs.declared.Verdict.TheVariants as verdict
 use Rattle.station.specs.Promises as station
-use Rattle.station.specs.Settled.{verdict_row_settled}
+use Rattle.station.proofs.Settled.{verdict_row_settled}
 use Rattle.file_contents.specs.Contents as contents
 use Rattle.file_contents.specs.Contents.{layout_entry, memory_entry, trace_entry, offset, begins, entry_fails, first_failing, file_check, body}
 use Rattle.file_segments.specs.Segments.{start_at, size_at, place, reached, segments, segment_fails, first_wrong, segment_check}

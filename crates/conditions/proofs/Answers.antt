@@ -8,7 +8,7 @@ use native.Mathlib.Omega.{arith}
 use lib.ListN.{length}
 use Rattle.refusal.specs.Answers as A
 use Rattle.refusal.specs.Answers.{refused_at, told, after_call}
-use Rattle.refusal.specs.Settled.{row_settled}
+use Rattle.refusal.proofs.Settled.{row_settled}
 use Rattle.refusal.specs.declared.Refusal.{Refusal}
 use Rattle.refusal.specs.declared.Answer.{Answer}
 use Rattle.refusal.specs.declared.Answer.TheVariants.{Done, Refused}

@@ -1,3 +1,2 @@
 pub mod Effects
 pub mod Promises
-pub mod Settled

@@ -1,4 +1,6 @@
 // What one step hands out and what it stores, by its cause.
+#![tactic(auto)]
+
 ghost use Rattle.std.specs.Prelude.{◌≡◌, ◌+◌, get_or};
 ghost use Rattle.notions.specs.Choice.{pick};
 ghost use Rattle.effects.specs.Effects as E;

@@ -1,3 +1,2 @@
 pub mod Contents
 pub mod Promises
-pub mod Settled

@@ -1,4 +1,6 @@
 // The contents of a run file: which entry fails, and where the bodies stand.
+#![tactic(auto)]
+
 ghost use Rattle.std.specs.Prelude.{◌≡◌, ◌≤◌, ◌<◌, length};
 ghost use Rattle.file_contents.specs.Contents as C;
 ghost use Rattle.file_contents.specs.Promises as P;

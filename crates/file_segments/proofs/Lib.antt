@@ -1,3 +1,4 @@
 pub mod Lists
 pub mod Described
 pub mod Walk
+pub mod Settled

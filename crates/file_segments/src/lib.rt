@@ -1,4 +1,6 @@
 // The memory body of a run file: which segment fails, and the memory that the segments describe.
+#![tactic(auto)]
+
 ghost use Rattle.std.specs.Prelude.{◌≡◌, ◌+◌, ◌≤◌, ◌<◌, length, replicate};
 ghost use Rattle.file_segments.specs.Segments as S;
 ghost use Rattle.file_segments.specs.Promises as P;

@@ -3,3 +3,4 @@ pub mod Walk
 pub mod Sent
 pub mod Begun
 pub mod Laws
+pub mod Settled

@@ -1,6 +1,5 @@
 pub mod Calls
 pub mod Frames
 pub mod Promises
-pub mod Settled
 pub mod Inner
 pub mod Streams

@@ -1,4 +1,6 @@
 // A call in a stream of bytes: whether it is whole, and its arguments.
+#![tactic(auto)]
+
 ghost use Rattle.std.specs.Prelude.{◌≡◌, ◌≤◌, length, drop};
 ghost use Rattle.frames.specs.Calls as C;
 ghost use Rattle.frames.specs.Frames as F;

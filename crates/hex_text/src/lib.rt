@@ -1,4 +1,6 @@
 // Bytes in hexadecimal digits, as the program `calls` prints them.
+#![tactic(auto)]
+
 ghost use Rattle.std.specs.Prelude.{◌≡◌};
 ghost use Rattle.std.proofs.lemmas.List.Edits.{sets};
 ghost use Rattle.io.specs.Digits as D;

@@ -1,3 +1,2 @@
 pub mod Hmac
 pub mod Promises
-pub mod Settled

@@ -1,4 +1,6 @@
 // HMAC-SHA-256 of FIPS 198-1.
+#![tactic(auto)]
+
 ghost use Rattle.std.specs.Prelude.{◌≡◌, ◌++◌, ◌≤◌, length};
 ghost use Rattle.sha256_digest.specs.Hash.{sha256};
 ghost use Rattle.hmac.specs.Hmac as S;

@@ -1,5 +1,7 @@
 // Reads a run file on standard input, judges it, and prints what came of it. One byte more is read than a file may
 // have, so that a longer one is told from it.
+#![tactic(auto)]
+
 use libc::{STDIN_FILENO, STDOUT_FILENO};
 
 fn main() {

@@ -2,6 +2,8 @@
 // file stands behind its length, a 32-bit little-endian number of at most 49,153. Memory and room are kept from file to
 // file, so that it would show if one saw what another left there. tests/second makes the files and works the same text
 // out by itself.
+#![tactic(auto)]
+
 ghost use Rattle.std.specs.Prelude.{◌≤◌, length};
 
 use libc::{STDIN_FILENO, STDOUT_FILENO};

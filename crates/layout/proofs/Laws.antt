@@ -25,7 +25,7 @@ use Rattle.layout.specs.Layouts.{CR, KR, MR, CTR, region, layout_of, wrong_size,
 use Rattle.layout.specs.Layouts.{first_reversed, first_wrong_size, first_collision}
 use Rattle.layout.specs.Layouts.{layout_bytes, regions, key_bytes, counter_bytes, least_mailbox}
 use Rattle.layout.specs.Promises.{layout_values, checked_row, Checks}
-use Rattle.layout.specs.Settled.{checked_row_settled}
+use Rattle.layout.proofs.Settled.{checked_row_settled}
 use Rattle.layout.specs.Good.{Good}
 
 -- ---- what `check` answers

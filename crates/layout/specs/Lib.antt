@@ -2,5 +2,4 @@ pub mod Regions
 pub mod Layouts
 pub mod Calls
 pub mod Promises
-pub mod Settled
 pub mod Good

@@ -1,4 +1,6 @@
 // The board's regions, and the check of a layout's bytes.
+#![tactic(auto)]
+
 ghost use Rattle.std.specs.Prelude.{◌≡◌, ◌<◌, length};
 ghost use Rattle.layout.specs.Regions as R;
 ghost use Rattle.layout.specs.Layouts as S;

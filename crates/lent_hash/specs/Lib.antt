@@ -1,3 +1,2 @@
 pub mod Promises
-pub mod Settled
 pub mod Objects

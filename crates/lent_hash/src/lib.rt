@@ -1,5 +1,7 @@
 // The running hash that the caller lends and finds changed, for the board. What is worked out is `sha256`'s, by value:
 // these take the object apart and store back what the method hands over.
+#![tactic(auto)]
+
 ghost use Rattle.lent_hash.specs.Promises as P;
 
 use refusal::Answer;

@@ -7,7 +7,7 @@ use lib.ListN.{length, drop}
 use borrow.Author.Tests.{eq-eqb, ne_eqb, lt-ltb, le-ltb}
 use Rattle.refusal.specs.Answers.{row, refused_at, told, after_call}
 use Rattle.refusal.specs.Numbers.{memory_size, room_size}
-use Rattle.refusal.specs.Settled.{row_settled}
+use Rattle.refusal.proofs.Settled.{row_settled}
 use Rattle.refusal.specs.declared.Refusal.{Refusal}
 use Rattle.refusal.specs.declared.Answer.{Answer}
 use Rattle.refusal.specs.declared.Answer.TheVariants.{Done, Refused}

@@ -4,7 +4,7 @@ use Prim.Native.Nat.{ℕ}
 use native.Mathlib.Omega.{arith}
 use lib.ListN.{length}
 use Rattle.refusal.specs.Answers.{told}
-use Rattle.refusal.specs.Settled.{row_settled}
+use Rattle.refusal.proofs.Settled.{row_settled}
 use Rattle.refusal.specs.declared.Refusal.{Refusal}
 use Rattle.refusal.specs.declared.Answer.{Answer}
 use Rattle.refusal.specs.declared.Answer.TheVariants.{Done, Refused}
@@ -13,7 +13,7 @@ use Rattle.monitor.specs.declared.Totals.{Totals}
 use Rattle.monitor.specs.declared.Stepped.TheVariants as stepped
 use Rattle.monitor.specs.declared.Traced.TheVariants as traced
 use Rattle.monitor.specs.Promises.{totals_values, traced_row, remembered, stepped_row}
-use Rattle.monitor.specs.Settled.{monitor_settled, traced_row_settled}
+use Rattle.monitor.proofs.Settled.{monitor_settled, traced_row_settled}
 
 pub traced_judged : (a : Answer) (t u : Totals) → traced_row (traced.Judged t) ≡ told a (totals_values u) → (a ≡ Done)
     × (t ≡ u)

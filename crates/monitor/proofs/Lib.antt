@@ -5,3 +5,4 @@ pub mod Checks
 pub mod Turns
 pub mod Calls
 pub mod Runs
+pub mod Settled

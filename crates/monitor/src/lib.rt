@@ -1,4 +1,6 @@
 // The monitor on lent memory: one step from whatever it remembers, and a trace from its start.
+#![tactic(auto)]
+
 ghost use Rattle.std.specs.Prelude.{◌≡◌, ◌+◌, ◌*◌, ◌≤◌, length};
 ghost use Rattle.notions.specs.Choice.{pick};
 ghost use Rattle.effects.specs.Effects as E;

@@ -1,3 +1,4 @@
 pub mod Tests
 pub mod First
 pub mod Bytes
+pub mod Settled

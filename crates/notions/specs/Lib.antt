@@ -1,4 +1,3 @@
 pub mod Choice
 pub mod Bytes
 pub mod First
-pub mod Settled

@@ -1,4 +1,3 @@
 pub mod Numbers
 pub mod Promises
-pub mod Settled
 pub mod Back

@@ -1,4 +1,6 @@
 // Bytes as numbers, and bytes stored at a place. Numbers have their lightest byte first.
+#![tactic(auto)]
+
 ghost use Rattle.std.specs.Prelude.{◌≡◌, ◌^◌, ◌≤◌, ◌<◌, length};
 ghost use Rattle.octets.specs.Numbers as N;
 ghost use Rattle.octets.specs.Promises as P;
@@ -77,5 +79,5 @@ pub fn store(room: &mut [u8], at: usize, x: &[u8])
         return;
     }
     let k = least(room.len() - at, x.len());
-    bytes::copy(&x[..k], &mut room[at..]);
+    room[at..at + k].copy_from_slice(&x[..k]);
 }

@@ -14,7 +14,7 @@ use Rattle.reader.specs.declared.Read.{Read}
 use Rattle.reader.specs.declared.Read.TheVariants as read
 use Rattle.reader.specs.Reading.{refused_read, read_at, place_after}
 use Rattle.reader.specs.Promises.{ReadsAt, Advances}
-use Rattle.reader.specs.Settled.{read_row_settled}
+use Rattle.reader.proofs.Settled.{read_row_settled}
 
 -- ---- the four answers
 

@@ -1,5 +1,7 @@
 // A reader of a trace: it holds the trace's bytes and the number of the step that is next.
 // The functions over it are thin. What they answer is worked out by `read_on`, on the bytes and the number.
+#![tactic(auto)]
+
 ghost use Rattle.reader.specs.Promises as P;
 
 use refusal::Refusal;

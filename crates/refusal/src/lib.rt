@@ -1,4 +1,6 @@
 // A refusal of the rules page, the page's refusal numbers under names, and the answer of a call that is done or refused.
+#![tactic(auto)]
+
 ghost use Rattle.refusal.specs.Promises as P;
 
 // What was refused, and where: the place is 0 unless the page names one.

@@ -10,7 +10,7 @@ use Rattle.refusal.specs.declared.Answer.TheVariants as call
 use Rattle.monitor.specs.declared.Traced.{Traced}
 use Rattle.monitor.specs.declared.Traced.TheVariants as traced
 use Rattle.monitor.specs.Promises.{totals_values, traced_row}
-use Rattle.monitor.specs.Settled.{traced_row_settled}
+use Rattle.monitor.proofs.Settled.{traced_row_settled}
 use Rattle.traces.proofs.Checks.{trace_passed}
 use Rattle.runfile.specs.Promises.{file_layout, file_memory, file_trace, file_totals, judge_check, Judges}
 use Rattle.runfile.proofs.Files.{admitted}

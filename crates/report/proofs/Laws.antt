@@ -19,7 +19,7 @@ use Rattle.effects.specs.Effects.{bytes}
 use Rattle.monitor.specs.Runs.{State, begin, said, answers, room_after, totals}
 use Rattle.traces.specs.Traces.{answer_size, count, steps}
 use Rattle.monitor.specs.Promises.{totals_values, traced_row}
-use Rattle.monitor.specs.Settled.{traced_row_settled}
+use Rattle.monitor.proofs.Settled.{traced_row_settled}
 use Rattle.monitor.proofs.Laws.{answer_at_lem}
 use Rattle.report.specs.Text.{header, line, lines, totals_line, judged_text, printed}
 use Rattle.report.specs.Inner.{answer_at, text_of}

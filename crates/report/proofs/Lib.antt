@@ -4,3 +4,4 @@ pub mod Told
 pub mod Laws
 pub mod Calls
 pub mod Largest
+pub mod Settled

@@ -1,4 +1,3 @@
 pub mod Text
 pub mod Inner
 pub mod Promises
-pub mod Settled

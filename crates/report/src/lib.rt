@@ -2,6 +2,8 @@
 //
 // Every function answers the place behind what it writes. What does not fit is counted and not stored. What the private
 // functions ask of a place only keeps sums small (specs/Inner.antt): all places of a text are far below.
+#![tactic(auto)]
+
 ghost use Rattle.std.specs.Prelude.{◌≡◌, [], ◌∷◌, ◌+◌, ◌*◌, ◌≤◌, ◌<◌, length};
 ghost use Rattle.io.specs.Digits.{last_digits};
 ghost use Rattle.traces.specs.Traces.{answer_size, most_steps};

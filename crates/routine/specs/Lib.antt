@@ -2,4 +2,3 @@ pub mod Strings
 pub mod Order
 pub mod Routine
 pub mod Promises
-pub mod Settled

@@ -1,4 +1,6 @@
 // The attestation routine on plain slices: the comparisons, the token, the reply, and steps 1 and 2.
+#![tactic(auto)]
+
 ghost use Rattle.routine.specs.Promises as P;
 
 use refusal::Answer;

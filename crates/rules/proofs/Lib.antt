@@ -1,2 +1,3 @@
 pub mod Laws
 pub mod None
+pub mod Settled

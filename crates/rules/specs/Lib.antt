@@ -1,4 +1,3 @@
 pub mod Rules
 pub mod Promises
-pub mod Settled
 pub mod Inner

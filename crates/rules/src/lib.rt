@@ -1,4 +1,6 @@
 // What the monitor remembers, and the rules by which a step resets.
+#![tactic(auto)]
+
 ghost use Rattle.std.specs.Prelude.{◌≡◌};
 ghost use Rattle.notions.specs.Choice.{pick};
 ghost use Rattle.rules.specs.Rules as R;

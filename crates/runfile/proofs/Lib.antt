@@ -1,2 +1,3 @@
 pub mod Bodies
 pub mod Files
+pub mod Settled

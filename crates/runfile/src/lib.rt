@@ -1,4 +1,6 @@
 // The judging of a run file.
+#![tactic(auto)]
+
 ghost use Rattle.std.specs.Prelude.{◌≡◌};
 ghost use Rattle.refusal.specs.Answers.{row, and_then};
 ghost use Rattle.traces.specs.Traces.{trace_check};

@@ -17,7 +17,7 @@ use Rattle.sha256_digest.specs.Promises.{Digests, DigestsFrom}
 use Rattle.sha256_digest.proofs.Laws.{hashed}
 use Rattle.sha256.specs.Running.{filled, started, taken, digest}
 use Rattle.sha256.specs.Promises.{limit, over, Gives, Starts, TakesIn, Finishes, Hashes}
-use Rattle.sha256.specs.Settled.{gives_settled, takes_in_settled}
+use Rattle.sha256.proofs.Settled.{gives_settled, takes_in_settled}
 use Rattle.sha256.proofs.Running.{filled_taken, taken_twice}
 
 -- ---- the definitions

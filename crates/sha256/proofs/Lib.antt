@@ -2,3 +2,4 @@ pub mod Filling
 pub mod Running
 pub mod Answers
 pub mod Laws
+pub mod Settled

@@ -1,5 +1,7 @@
 // SHA-256 as the board has it, with its limit: the running hash by value, and the hash of a whole message.
 // The block function is `sha256_block`'s, padding and digests are `sha256_digest`'s.
+#![tactic(auto)]
+
 ghost use Rattle.std.specs.Prelude.{◌≡◌, true, false, ◌++◌, [], ◌+◌, ◌%◌, ◌^◌, ◌<◌, ◌≤◌, length, take};
 ghost use Rattle.std.proofs.Math.Seq.{paste};
 ghost use Rattle.sha256.specs.Running as R;

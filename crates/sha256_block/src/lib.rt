@@ -1,5 +1,7 @@
 // SHA-256's block function: FIPS 180-4, 6.2.2, over the whole blocks of some bytes.
 // Padding and the running hash are `sha256`'s.
+#![tactic(auto)]
+
 mod constants;
 mod functions;
 

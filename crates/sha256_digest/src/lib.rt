@@ -1,4 +1,6 @@
 // SHA-256 of FIPS 180-4: padding, and the digest of a whole message. The block function is `sha256_block`'s.
+#![tactic(auto)]
+
 mod output;
 
 ghost use Rattle.std.specs.Prelude.{◌≡◌, ◌++◌, ◌+◌, ◌%◌, ◌^◌, ◌<◌, ◌≤◌, length, take};

@@ -1,2 +1,1 @@
 pub mod Promises
-pub mod Settled

@@ -1,5 +1,7 @@
 // The hash, the MAC, attestation, the judging of a trace and of a run file for a C program to time: bench/ links these
 // functions.
+#![tactic(auto)]
+
 ghost use Rattle.std.specs.Prelude.{◌≡◌, length};
 ghost use Rattle.speed.specs.Promises as P;
 

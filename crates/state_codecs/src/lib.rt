@@ -1,5 +1,7 @@
 // A state of the running hash as 104 bytes, as the program `calls` takes and prints it. Numbers have their lightest
 // byte first.
+#![tactic(auto)]
+
 ghost use Rattle.std.specs.Prelude.{◌≡◌, ◌+◌, ◌*◌, ◌≤◌, ◌<◌, length, drop};
 ghost use Rattle.std.proofs.lemmas.List.Edits.{sets};
 ghost use Rattle.octets.specs.Numbers as N;

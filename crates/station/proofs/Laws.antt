@@ -21,7 +21,7 @@ use Rattle.station.specs.declared.Verdict.{Verdict}
 use Rattle.station.specs.declared.Verdict.TheVariants.{Yes, No, Refused}
 use Rattle.station.specs.Lengths.{Lengths}
 use Rattle.station.specs.Promises.{not_of, token_unfit, check_unfit, verdict_row, ChecksReply}
-use Rattle.station.specs.Settled.{verdict_row_settled}
+use Rattle.station.proofs.Settled.{verdict_row_settled}
 
 -- ---- lengths
 

@@ -1,4 +1,6 @@
 // The station: the token for a challenge, and the check of a reply.
+#![tactic(auto)]
+
 ghost use Rattle.station.specs.Promises as P;
 
 use refusal::Refusal;

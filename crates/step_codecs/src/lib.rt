@@ -1,5 +1,7 @@
 // A step as 12 bytes and a monitor from its bytes, as the program `calls` prints and takes them. Numbers have their
 // lightest byte first.
+#![tactic(auto)]
+
 ghost use Rattle.std.specs.Prelude.{◌≡◌, ◌≤◌, get_or};
 ghost use Rattle.notions.specs.Choice as C;
 ghost use Rattle.steps.specs.Steps as T;

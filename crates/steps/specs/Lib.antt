@@ -1,3 +1,2 @@
 pub mod Steps
 pub mod Promises
-pub mod Settled

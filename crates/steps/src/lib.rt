@@ -1,4 +1,6 @@
 // One step of a trace, and the 12 bytes that tell it.
+#![tactic(auto)]
+
 ghost use Rattle.steps.specs.Promises as P;
 
 // A step: PC, the address and the data byte of the CPU's access and of the DMA's, and the flag bits 0 to 4.

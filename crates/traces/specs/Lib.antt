@@ -1,3 +1,2 @@
 pub mod Traces
 pub mod Promises
-pub mod Settled

@@ -1,4 +1,6 @@
 // What the bytes of a trace are: whole steps, how many, and whether they and a room for their answers fit.
+#![tactic(auto)]
+
 ghost use Rattle.std.specs.Prelude.{◌≡◌, ◌+◌, ◌*◌, ◌≤◌, length};
 ghost use Rattle.traces.specs.Traces as T;
 ghost use Rattle.traces.specs.Promises as P;

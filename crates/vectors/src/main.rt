@@ -1,6 +1,8 @@
 // Prints a line for each case of SHA-256, HMAC and the running hash: published examples, lengths around the edges of
 // blocks and limits, a message in parts, and states that no message reaches. tests/second works the same lines out by
 // itself.
+#![tactic(auto)]
+
 mod lengths;
 mod line;
 mod published;

@@ -1,6 +1,6 @@
 -- The promise settles its result: two causes that meet it are equal. Assumes nothing.
 use Rattle.std.specs.Prelude.{◌≡◌, ℕ}
-use Rattle.notions.specs.Settled.{equation_settled}
+use Rattle.notions.proofs.Settled.{equation_settled}
 use Rattle.layout.specs.declared.Layout.{Layout}
 use Rattle.steps.specs.declared.Step.{Step}
 use Rattle.rules.specs.declared.Monitor.{Monitor}

@@ -1,6 +1,6 @@
 -- The promises settle their results: two that meet one are equal. Assumes nothing.
 use Rattle.std.specs.Prelude.{◌≡◌, Bool, List, ℕ}
-use Rattle.notions.specs.Settled.{equation_settled}
+use Rattle.notions.proofs.Settled.{equation_settled}
 use Rattle.steps.specs.declared.Step.{Step}
 use Rattle.steps.specs.Promises.{Decodes, IsClean}
 

@@ -1,8 +1,8 @@
 -- The promises settle their results: two that meet one are equal. Assumes nothing.
 use Rattle.std.specs.Prelude.{◌≡◌, Bool, List, ℕ}
 use Rattle.std.proofs.Common.{sym, ◌∙◌}
-use Rattle.notions.specs.Settled.{equation_settled}
-use Rattle.refusal.specs.Settled.{row_settled}
+use Rattle.notions.proofs.Settled.{equation_settled}
+use Rattle.refusal.proofs.Settled.{row_settled}
 use Rattle.refusal.specs.declared.Answer.{Answer}
 use Rattle.traces.specs.Promises.{GivesRecord, Misfits, Fits, StepFits}
 

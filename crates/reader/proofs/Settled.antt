@@ -2,8 +2,8 @@
 use Rattle.std.specs.Prelude.{◌≡◌, refl, List, ℕ, length}
 use Rattle.std.proofs.Common.{ap, sym, ◌∙◌, arith}
 use Rattle.std.specs.Borrow.{Bor}
-use Rattle.refusal.specs.Settled.{row_settled}
-use Rattle.notions.specs.Settled.{flag_settled}
+use Rattle.refusal.proofs.Settled.{row_settled}
+use Rattle.notions.proofs.Settled.{flag_settled}
 use Rattle.refusal.specs.declared.Answer.TheVariants as call
 use Rattle.steps.specs.declared.Step.{Step}
 use Rattle.reader.specs.declared.Read.{Read}

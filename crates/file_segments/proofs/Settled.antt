@@ -2,7 +2,7 @@
 use Rattle.std.specs.Prelude.{◌≡◌, List, ℕ}
 use Rattle.std.proofs.Common.{sym, ◌∙◌}
 use Rattle.refusal.specs.declared.Answer.{Answer}
-use Rattle.refusal.specs.Settled.{row_settled}
+use Rattle.refusal.proofs.Settled.{row_settled}
 use Rattle.file_segments.specs.Promises.{ChecksSegments}
 
 pub checks_segments_settled : (b : List ℕ) (r q : Answer) → ChecksSegments b r → ChecksSegments b q → r ≡ q

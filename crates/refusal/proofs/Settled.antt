@@ -1,7 +1,7 @@
 -- A row settles its answer. Assumes nothing.
 use Rattle.std.specs.Prelude.{◌≡◌, refl, ℕ}
 use Rattle.std.proofs.Common.{sym, ap, ◌∙◌, arith}
-use Rattle.notions.specs.Settled.{equation_settled}
+use Rattle.notions.proofs.Settled.{equation_settled}
 use Rattle.refusal.specs.declared.Answer.{Answer}
 use Rattle.refusal.specs.declared.Answer.TheVariants.{Done, Refused}
 use Rattle.refusal.specs.Answers.{row}

@@ -1,8 +1,8 @@
 -- The promises settle the answer and every lent byte. Assumes nothing.
 use Rattle.std.specs.Prelude.{◌≡◌, Bool, List, ℕ}
 use Rattle.std.proofs.Common.{ap, sym, ◌∙◌, arith}
-use Rattle.refusal.specs.Settled.{row_settled}
-use Rattle.notions.specs.Settled.{flag_settled}
+use Rattle.refusal.proofs.Settled.{row_settled}
+use Rattle.notions.proofs.Settled.{flag_settled}
 use Rattle.refusal.specs.declared.Answer.TheVariants as call
 use Rattle.layout.specs.declared.Layout.{Layout}
 use Rattle.rules.specs.declared.Monitor.{Monitor}

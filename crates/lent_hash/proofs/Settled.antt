@@ -6,7 +6,7 @@ use Rattle.sha256.specs.declared.Sha.{Sha}
 use Rattle.sha256.specs.declared.Taken.{Taken}
 use Rattle.sha256.specs.declared.Bytes32.{Bytes32}
 use Rattle.sha256.specs.Promises as by_value
-use Rattle.sha256.specs.Settled as by_value_settled
+use Rattle.sha256.proofs.Settled as by_value_settled
 use Rattle.lent_hash.specs.declared.Finished.{Finished}
 use Rattle.lent_hash.specs.Promises.{Starts, TakesIn, Finishes, FinishesLent}
 

@@ -2,7 +2,7 @@
 use Rattle.std.specs.Prelude.{◌≡◌, List, ℕ}
 use Rattle.std.proofs.Common.{sym, ◌∙◌}
 use Rattle.monitor.specs.declared.Traced.{Traced}
-use Rattle.monitor.specs.Settled.{traced_row_settled}
+use Rattle.monitor.proofs.Settled.{traced_row_settled}
 use Rattle.runfile.specs.Promises.{Judges}
 
 pub judges_settled : (file memory room memory₁ room₁ memory₂ room₂ : List ℕ) (r q : Traced)

@@ -2,7 +2,7 @@
 use Rattle.std.specs.Prelude.{◌≡◌, List, ℕ}
 use Rattle.std.proofs.Common.{sym, ◌∙◌}
 use Rattle.refusal.specs.declared.Answer.{Answer}
-use Rattle.refusal.specs.Settled.{row_settled}
+use Rattle.refusal.proofs.Settled.{row_settled}
 use Rattle.file_contents.specs.Promises.{ChecksContents}
 
 pub checks_contents_settled : (f : List ℕ) (r q : Answer) → ChecksContents f r → ChecksContents f q → r ≡ q

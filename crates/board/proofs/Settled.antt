@@ -1,7 +1,7 @@
 -- The promise of `attest` settles the answer and every byte of the memory. Assumes nothing.
 use Rattle.std.specs.Prelude.{◌≡◌, List, ℕ}
 use Rattle.std.proofs.Common.{sym, ◌∙◌}
-use Rattle.refusal.specs.Settled.{row_settled}
+use Rattle.refusal.proofs.Settled.{row_settled}
 use Rattle.refusal.specs.declared.Answer.{Answer}
 use Rattle.board.specs.Promises.{Attests}
 

@@ -1,10 +1,10 @@
 -- The station's promises settle their results. Assumes nothing.
 use Rattle.std.specs.Prelude.{◌≡◌, refl, List, ℕ, length}
 use Rattle.std.proofs.Common.{ap, sym, ◌∙◌, arith}
-use Rattle.refusal.specs.Settled.{row_settled}
+use Rattle.refusal.proofs.Settled.{row_settled}
 use Rattle.refusal.specs.declared.Answer.TheVariants as call
 use Rattle.sha256.specs.declared.Bytes32.{Bytes32}
-use Rattle.sha256.specs.Settled.{gives_settled}
+use Rattle.sha256.proofs.Settled.{gives_settled}
 use Rattle.station.specs.declared.Verdict.{Verdict}
 use Rattle.station.specs.declared.Verdict.TheVariants.{Yes, No, Refused}
 use Rattle.station.specs.Promises.{verdict_row, MakesToken, ChecksReply}

@@ -1,10 +1,10 @@
 -- Each promise settles its result. Assumes nothing.
 use Rattle.std.specs.Prelude.{◌≡◌, Bool, List, ℕ}
 use Rattle.std.proofs.Common.{sym, ◌∙◌}
-use Rattle.refusal.specs.Settled.{row_settled}
+use Rattle.refusal.proofs.Settled.{row_settled}
 use Rattle.refusal.specs.declared.Answer.{Answer}
 use Rattle.sha256.specs.declared.Bytes32.{Bytes32}
-use Rattle.sha256.specs.Settled.{gives_settled}
+use Rattle.sha256.proofs.Settled.{gives_settled}
 use Rattle.routine.specs.Promises.{Compares, Equals, Tokens, RepliesTo, Replies, Authorises}
 
 pub compares_settled : (a b : List ℕ) (r q : Bool) → Compares a b r → Compares a b q → r ≡ q

@@ -1,0 +1,15 @@
+-- `octets::store` meets its contract. Assumes nothing.
+use borrow.Author.Rules.{rules}
+use mathlib.Core.Path.{sym}
+use native.Mathlib.Omega.{arith}
+use lib.ListN.{length-take, length-drop}
+use Rattle.octets.proofs.Laid.{stored, sets_out}
+use Rattle.octets.proofs.store.Goals as goal
+
+pub returns-then-room-at : goal.returns-then-room-at
+returns-then-room-at c = let a = c.args in sym (sets_out a.room.now a.x.now a.at c.if-room-at.true)
+
+pub returns : goal.returns
+returns c =
+    let a = c.args in
+    stored a.room.now a.x.now _ a.at _ c.least-k.ensures c.copy.ensures.1

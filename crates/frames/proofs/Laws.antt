@@ -1,17 +1,17 @@
 -- A stream of calls: the laws of specs/Streams.antt. Assumes nothing.
 use mathlib.Core.Path.{◌≡◌, refl, ap, sym, ◌∙◌, subst}
-use mathlib.Core.Bool.{Bool, true, false, ◌&&◌}
+use mathlib.Core.Bool.{Bool, true, false}
 use mathlib.Core.List.{List, [], ◌∷◌, ◌++◌, append_assoc}
 use Prim.Native.Nat.{ℕ, zero, suc, ◌+◌, ◌-◌, ◌*◌, ◌≤◌, ◌<◌}
 use native.Mathlib.Omega.{arith}
-use lib.Dec.{eqb, ltb, leb}
+use lib.Dec.{ltb}
 use lib.ListN.{length, get_or, take, drop, length-append, length-drop, take-append-drop}
 use lib.Seq.{length-take-le, take-add}
-use borrow.Author.Tests.{ltb-true, ltb-false, leb-true, eqb-false, ne_eqb}
+use borrow.Author.Tests.{ltb-true, ltb-false}
 use Rattle.notions.specs.Bytes.{Bytes}
 use Rattle.notions.specs.Choice.{pick}
 use Rattle.notions.proofs.Bytes.{bytes_take, bytes_drop}
-use Rattle.notions.proofs.Tests.{cases, clash, both}
+use Rattle.notions.proofs.Tests.{cases, clash}
 use Rattle.octets.specs.Numbers.{little}
 use Rattle.octets.proofs.Laws.{bytes_back}
 use Rattle.frames.specs.declared.Framed.{Framed}

@@ -6,13 +6,13 @@ use mathlib.Core.List.{List, [], ◌∷◌, ◌++◌}
 use Prim.Native.Nat.{ℕ, zero, suc, ◌+◌, ◌-◌, ◌≤◌, ◌<◌, min}
 use native.Mathlib.Omega.{arith}
 use lib.Dec.{ltb}
-use lib.ListN.{length, get_or, take, drop, length-drop, length-take, drop_of_length-le, get_or-eq_default}
+use lib.ListN.{length, get_or, take, drop, length-drop, length-take, drop_of_length-le}
 use lib.Seq.{length-take-le, take_all, take-take, take-length, drop-drop, drop-nil}
-use borrow.Author.Tests.{lt-ltb, le-ltb, ltb-true, ltb-false, eq-eqb, ne_eqb}
+use borrow.Author.Tests.{lt-ltb, le-ltb, ltb-true, ltb-false}
 use Rattle.notions.proofs.Tests.{cases, clash, neither}
 use Rattle.frames.specs.declared.Framed.{Framed}
 use Rattle.frames.specs.declared.Framed.TheVariants.{Needs, Whole, Cut}
-use Rattle.frames.specs.Calls.{most_argument_bytes, any, listed, count, allowed}
+use Rattle.frames.specs.Calls.{most_argument_bytes, any, allowed}
 use Rattle.frames.specs.Frames.{size, behind, framed_one, if_whole, framed_from, framed, first_argument, skipped}
 use Rattle.frames.specs.Frames.{argument}
 use Rattle.frames.specs.Promises.{Copies}
@@ -153,14 +153,6 @@ one_is_whole n i used b w =
     (λ r e. r)
 
 -- ---- all arguments
-
--- the answer to "is it whole", as the code turns it around
-pub unwhole : (t : Bool) (f : Framed) → t ≡ is_whole f → not t ≡ true → is_whole f ≡ false
-unwhole true f e n = clash false n refl
-unwhole false f e n = sym e
-
-pub whole : (t : Bool) (f : Framed) → t ≡ is_whole f → not t ≡ false → is_whole f ≡ true
-whole t f e n = sym e ∙ not_not t n
 
 -- the arguments before i are whole, and have `used` bytes together
 pub record Walked (b : List ℕ) (n m at used i : ℕ) : Type 0 where
@@ -356,23 +348,18 @@ module _ (b : List ℕ) (i at k s size' : ℕ)
   stands = let q : at + k + size' - (at + k) ≡ size' = omega arith in ap (λ (n : ℕ). take n t) q ∙ sym is_argument
 
 -- what is copied of it
-pub copied : (b : List ℕ) (i : ℕ) (room room' given slice : List ℕ) (f r : ℕ)
-    → given ≡ argument b i → f ≡ min (length given) (length room) → slice ≡ take (f - 0) (drop 0 given)
-    → r ≡ length slice
-    → room' ≡ take (length slice) slice ++ drop (length slice) room → Copies b i room room' r
-copied b i room room' given slice f r g ef e er eo =
-    let z : f - 0 ≡ f = omega arith in
+pub copied : (b : List ℕ) (i : ℕ) (room given slice : List ℕ) (f : ℕ)
+    → given ≡ argument b i → f ≡ min (length given) (length room) → slice ≡ take f given
+    → Copies b i room (slice ++ drop f room) f
+copied b i room given slice f g ef sl =
     let cut = fit given room (length given) f (omega arith) ef in
-    let sl : slice ≡ take f given = e ∙ ap (λ (n : ℕ). take n given) z in
     let ls : length slice ≡ f
     = ap length sl ∙ length_first f (length given) given (min_first f (length given) (length room) ef) (omega arith) in
     let taken : take (length room) (argument b i) ≡ slice
     = ap (take (length room)) (sym g ∙ sym (take-length given)) ∙ cut.0 ∙ sym sl in
     record {
-      answered = er ∙ ap length (sym taken);
-      room_left = eo
-          ∙ ap (λ (x : List ℕ). x ++ drop (length slice) room) (take-length slice ∙ sym taken)
-          ∙ ap (λ (n : ℕ). take (length room) (argument b i) ++ drop n room) ls
+      answered = sym ls ∙ ap length (sym taken);
+      room_left = ap (λ (x : List ℕ). x ++ drop f room) (sym taken)
           ∙ ap (λ (x : List ℕ). take (length room) (argument b i) ++ x)
           (sym cut.1 ∙ ap (λ (x : List ℕ). drop (length x) room) g);
     }

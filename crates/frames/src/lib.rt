@@ -19,7 +19,7 @@ const LENGTH_BYTES: usize = 4;
 pub const LONGEST: usize = 1 + MOST_ARGUMENTS * LENGTH_BYTES + MOST_ARGUMENT_BYTES;
 
 // What bytes are of the call that they begin: too few by so many at least, all of it, or cut.
-#[derive(Drop)]
+#[derive(Clone, Copy)]
 pub enum Framed {
     Needs(usize),
     Whole,
@@ -208,5 +208,6 @@ pub fn copy_argument(bytes: &[u8], i: usize, room: &mut [u8]) -> usize
 {
     let given = argument(bytes, i);
     let fits = octets::least(given.len(), room.len());
-    bytes::copy(&given[0..fits], room)
+    room[..fits].copy_from_slice(&given[..fits]);
+    fits
 }

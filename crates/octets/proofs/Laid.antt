@@ -58,7 +58,7 @@ laid_over l x e =
     ∙ append-nil (take (length l) x)
     ∙ take_all (length l) x (omega arith)
 
--- what `store` leaves: k bytes fit, and are copied to the start of the part v of the room behind the place
+-- what `store` leaves: k bytes fit, and stand as v in the room from the place on
 take_length_take : (m : ℕ) (x : List ℕ) → take (length (take m x)) x ≡ take m x
 take_length_take zero x = refl
 take_length_take (suc m) [] = refl
@@ -77,17 +77,10 @@ copied x y v k e ev =
     ∙ ap (λ (r : List ℕ). take (length y) x ++ r) (drop_length_take y x)
     ∙ sym (cut y x)
 
-pub stored : (l x v : List ℕ) (i k : ℕ) → k ≡ min (length l - i) (length x)
-    → v ≡ take (length (take k x)) (take k x) ++ drop (length (take k x)) (take (length l - i) (drop i l))
-    → take i l ++ (v ++ drop (length l - i) (drop i l)) ≡ sets l i x
-stored l x v i k e ev =
+pub stored : (l x v : List ℕ) (i n k : ℕ) → k ≡ min (length l - i) (length x) → n ≡ k → v ≡ take k x
+    → take i l ++ (v ++ drop n (drop i l)) ≡ sets l i x
+stored l x v i n k e en ev =
     let y = drop i l in
-    let n : length y ≡ length l - i = length-drop i l in
     let m : k ≡ length (take (length y) x) = simp (length-take, length-drop) e in
-    let s : length (take k x) ≡ k = simp length-take (omega arith) in
-    let w : take (length l - i) y ≡ y = take_all (length l - i) y (omega arith) in
-    let z : drop (length l - i) y ≡ [] = drop_of_length-le y {i = length l - i} (omega arith) in
-    let f : v ≡ take k x ++ drop k y = cc (take-length (take k x)) in
-    ap (λ (r : List ℕ). take i l ++ (v ++ r)) z
-    ∙ ap (λ (r : List ℕ). take i l ++ r) (append-nil v ∙ copied x y v k m f)
-    ∙ sym (sets_from l i x)
+    let f : v ++ drop n y ≡ take k x ++ drop k y = cc in
+    ap (λ (r : List ℕ). take i l ++ r) (f ∙ copied x y (take k x ++ drop k y) k m refl) ∙ sym (sets_from l i x)

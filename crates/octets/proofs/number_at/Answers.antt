@@ -1,5 +1,4 @@
 -- `octets::number_at` meets its contract. Assumes nothing.
-use borrow.Author.Rules.{rules}
 use Rattle.octets.proofs.Reading.{reads_at}
 use Rattle.octets.proofs.number_at.Goals as goal
 

@@ -1,7 +1,6 @@
 -- `octets::short_number` meets its contract. Assumes nothing.
-use borrow.Author.Rules.{rules}
 use native.Mathlib.Omega.{arith}
-use Rattle.octets.proofs.Reading.{ReadFrom, read_none, read_more, read_whole, fits_more}
+use Rattle.octets.proofs.Reading.{read_none, read_more, read_whole, fits_more}
 use Rattle.octets.proofs.short_number.Goals as goal
 
 pub loop-i-init : goal.loop-i-init

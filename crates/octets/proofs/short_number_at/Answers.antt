@@ -1,5 +1,4 @@
 -- `octets::short_number_at` meets its contract. Assumes nothing.
-use borrow.Author.Rules.{rules}
 use Rattle.octets.proofs.Reading.{at_none, at_some, at_all}
 use Rattle.octets.proofs.short_number_at.Goals as goal
 

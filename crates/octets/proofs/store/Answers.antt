@@ -1,8 +1,6 @@
 -- `octets::store` meets its contract. Assumes nothing.
-use borrow.Author.Rules.{rules}
 use mathlib.Core.Path.{sym}
 use native.Mathlib.Omega.{arith}
-use lib.ListN.{length-take, length-drop}
 use Rattle.octets.proofs.Laid.{stored, sets_out}
 use Rattle.octets.proofs.store.Goals as goal
 
@@ -12,4 +10,4 @@ returns-then-room-at c = let a = c.args in sym (sets_out a.room.now a.x.now a.at
 pub returns : goal.returns
 returns c =
     let a = c.args in
-    stored a.room.now a.x.now _ a.at _ c.least-k.ensures c.copy.ensures.1
+    stored a.room.now a.x.now _ a.at _ c.least-k.result c.least-k.ensures (omega arith) c.copy_from_slice.ensures.after

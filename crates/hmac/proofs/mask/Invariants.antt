@@ -1,0 +1,16 @@
+-- `hmac::mask` meets its contract. Assumes nothing.
+use mathlib.Core.Path.{◌≡◌}
+use mathlib.Core.List.{◌++◌}
+use Prim.Native.Nat.{◌≤◌, ◌-◌}
+use native.Mathlib.Omega.{arith}
+use lib.ListN.{length, take, drop, length-set}
+use Rattle.hmac.specs.Hmac.{xored}
+use Rattle.hmac.proofs.Masks.{mask_none, mask_more, mask_whole}
+use borrow.Author.Rules.{rules}
+use Rattle.hmac.proofs.mask.Given as goal
+
+abbrev pub invariant-loop-i : goal.invariant-loop-i
+invariant-loop-i l = (l.i ≤ 64) × (length l.b ≡ 64) × (length l.initial.b ≡ 64) × (l.b ≡ xored l.x (take l.i l.initial.b) ++ drop l.i l.initial.b)
+
+abbrev pub decreases-loop-i : goal.decreases-loop-i
+decreases-loop-i l = 64 - l.i

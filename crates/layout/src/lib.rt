@@ -9,13 +9,13 @@ ghost use Rattle.layout.specs.Promises as P;
 use refusal::{Answer, Refusal};
 
 // A lowest and a highest address, both included.
-#[derive(Drop)]
+#[derive(Clone, Copy)]
 pub struct Region {
     pub lo: u16,
     pub hi: u16,
 }
 
-#[derive(Drop)]
+#[derive(Clone, Copy)]
 pub struct Layout {
     pub cr: Region,
     pub kr: Region,

@@ -1,0 +1,12 @@
+-- `layout::first_reversed` meets its contract. The loop has passed all below its index. Assumes nothing.
+use Prim.Native.Nat.{◌-◌}
+use Rattle.layout.specs.Regions.{reversed}
+use Rattle.layout.specs.Layouts.{regions, region}
+use Rattle.notions.proofs.First.{Passed}
+use Rattle.layout.proofs.first_reversed.Given as goal
+
+abbrev pub invariant-loop-k : goal.invariant-loop-k
+invariant-loop-k l = Passed regions (λ j. reversed (region l.b j)) l.k
+
+abbrev pub decreases-loop-k : goal.decreases-loop-k
+decreases-loop-k l = regions - l.k

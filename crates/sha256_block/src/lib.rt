@@ -18,7 +18,7 @@ use functions::add;
 pub const BLOCK: usize = 64;
 
 // The eight working variables.
-#[derive(Drop)]
+#[derive(Clone, Copy)]
 pub struct Vars {
     pub a: u32,
     pub b: u32,

@@ -4,7 +4,7 @@
 ghost use Rattle.steps.specs.Promises as P;
 
 // A step: PC, the address and the data byte of the CPU's access and of the DMA's, and the flag bits 0 to 4.
-#[derive(Drop)]
+#[derive(Clone, Copy)]
 pub struct Step {
     pub pc: u16,
     pub cpuaddress: u16,

@@ -1,0 +1,12 @@
+-- `sha256::copy` meets its contract. Assumes nothing.
+use borrow.Author.Rules.{rules}
+use mathlib.Core.Path.{◌∙◌}
+use Rattle.octets.proofs.Laid.{laid_whole}
+use Rattle.sha256.proofs.copy.Goals as goal
+
+pub store-requires : goal.store-requires
+store-requires c = tt
+
+pub returns : goal.returns
+returns c =
+    c.store.ensures ∙ laid_whole c.args.room.now c.args.at c.args.x.now c.requires

@@ -1,16 +1,16 @@
 -- The laws of the cause, for readers and for the crates above. Assumes nothing.
-use mathlib.Core.Path.{◌≡◌, refl, ap, ◌∙◌}
+use mathlib.Core.Path.{◌≡◌, refl, ap}
 use mathlib.Core.Bool.{Bool, true, false, not, ◌&&◌, ◌||◌}
 use mathlib.Core.List.{List, [], ◌∷◌}
-use Prim.Native.Nat.{ℕ, zero, suc, ◌+◌, ◌*◌, ◌/◌, ◌%◌, ◌^◌, ◌≤◌, ◌<◌}
+use Prim.Native.Nat.{ℕ, zero, suc, ◌≤◌, ◌<◌}
 use native.Mathlib.Omega.{arith}
-use lib.Dec.{eqb, ltb}
+use lib.Dec.{ltb}
 use lib.ListN.{get_or}
-use borrow.Author.Tests.{eqb-true, eqb-false, ltb-false, lt-ltb, not-true, not-false}
+use borrow.Author.Tests.{ltb-false, lt-ltb}
 use Rattle.notions.specs.Choice.{pick}
 use Rattle.notions.specs.First.{first}
 use Rattle.notions.proofs.First.{first_most, first_least, first_is, first_none}
-use Rattle.notions.proofs.Tests.{cases, clash}
+use Rattle.notions.proofs.Tests.{cases}
 use Rattle.layout.specs.declared.Layout.{Layout}
 use Rattle.layout.specs.Regions.{within}
 use Rattle.steps.specs.declared.Step.{Step}

@@ -11,7 +11,7 @@ use layout::Layout;
 use steps::Step;
 
 // What the monitor remembers: whether it is held, and the PC of the step before.
-#[derive(Drop)]
+#[derive(Clone, Copy)]
 pub struct Monitor {
     pub held: bool,
     pub lastpc: u16,

@@ -12,7 +12,7 @@ use Rattle.station.specs.Promises.{verdict_row, MakesToken, ChecksReply}
 pub verdict_row_settled : (a b : Verdict) → verdict_row a ≡ verdict_row b → a ≡ b
 verdict_row_settled Yes Yes e = refl
 verdict_row_settled Yes No e = absurd (let z : ◌≡◌ {A = ℕ} 1 0 = cc in omega arith)
-verdict_row_settled Yes (Refused r) e = absurd (let z : ◌≡◌ {A = ℕ} 0 1 = cc (ap length e) in omega arith)
+verdict_row_settled Yes (Refused r) e = absurd (let z : ◌≡◌ {A = ℕ} 0 1 = cc in omega arith)
 verdict_row_settled No Yes e = absurd (let z : ◌≡◌ {A = ℕ} 0 1 = cc in omega arith)
 verdict_row_settled No No e = refl
 verdict_row_settled No (Refused r) e = absurd (let z : ◌≡◌ {A = ℕ} 0 1 = cc in omega arith)

@@ -12,9 +12,6 @@ loop-p-init c = (omega arith, omega arith, check_none c.args.body.now)
 pub fails_at-requires : goal.fails_at-requires
 fails_at-requires c = omega arith
 
-pub refused_at-requires : goal.refused_at-requires
-refused_at-requires c = tt
-
 pub returns-then-fails_at : goal.returns-then-fails_at
 returns-then-fails_at c =
     let h = c.loop-p in

@@ -25,14 +25,18 @@ pub fn start(state: &mut Sha)
 pub fn take_in(state: &mut Sha, bytes: &[u8]) -> Answer
     ensures { P.TakesIn state.old bytes.now state.new result }
 {
+    let words = state.words;
+    let block = state.block;
     let held = Sha {
-        words: state.words,
-        block: state.block,
+        words,
+        block,
         total: state.total,
     };
     let taken = held.take_in(bytes);
-    state.words = taken.state.words;
-    state.block = taken.state.block;
+    let words = taken.state.words;
+    let block = taken.state.block;
+    state.words = words;
+    state.block = block;
     state.total = taken.state.total;
     taken.answer
 }

@@ -4,15 +4,9 @@ use borrow.Author.Tests.{lt-ltb, le-ltb}
 use Rattle.file_contents.specs.Contents.{file_check}
 use Rattle.file_contents.proofs.check_contents.Goals as goal
 
-pub refused-requires : goal.refused-requires
-refused-requires c = tt
-
 pub returns-then-file-gt-LARGEST_FILE : goal.returns-then-file-gt-LARGEST_FILE
 unfolding file_check
 returns-then-file-gt-LARGEST_FILE c = c.refused.ensures ∙ simp (lt-ltb _ _ c.if-file-gt-LARGEST_FILE.true)
-
-pub refused_at-requires : goal.refused_at-requires
-refused_at-requires c = tt
 
 pub returns-then-place-lt-ENTRIES : goal.returns-then-place-lt-ENTRIES
 unfolding file_check

@@ -1,8 +1,5 @@
 -- `file_contents::fails_from` meets its contract. Assumes nothing.
 use Rattle.file_contents.proofs.fails_from.Goals as goal
 
-pub number_at-offset-requires : goal.number_at-offset-requires
-number_at-offset-requires c = tt
-
 pub returns : goal.returns
 returns c = simp (c.size-size.ensures.0, c.number_at-offset.ensures.value)

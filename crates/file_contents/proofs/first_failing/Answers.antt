@@ -19,18 +19,6 @@ returns-then-fails_from c =
     found _ h.k h.begin c.if-file-lt-CONTENTS_SIZE.false h.invariant
     c.loop-k-test.true (sym c.fails_from.ensures ∙ c.if-fails_from.true)
 
-pub size-begin-requires : goal.size-begin-requires
-size-begin-requires c = omega arith
-
-pub overflow_add-begin : goal.overflow_add-begin
-overflow_add-begin c = omega arith
-
-pub overflow_add-k : goal.overflow_add-k
-overflow_add-k c = omega arith
-
-pub loop-k-smaller : goal.loop-k-smaller
-loop-k-smaller c = omega arith
-
 pub loop-k-preserved : goal.loop-k-preserved
 loop-k-preserved c =
     let h = c.loop-k in

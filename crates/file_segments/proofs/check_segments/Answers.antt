@@ -9,12 +9,6 @@ use Rattle.file_segments.proofs.check_segments.Goals as goal
 pub loop-p-init : goal.loop-p-init
 loop-p-init c = (omega arith, omega arith, check_none c.args.body.now)
 
-pub fails_at-requires : goal.fails_at-requires
-fails_at-requires c = omega arith
-
-pub refused_at-requires : goal.refused_at-requires
-refused_at-requires c = tt
-
 pub returns-then-fails_at : goal.returns-then-fails_at
 returns-then-fails_at c =
     let h = c.loop-p in
@@ -43,9 +37,6 @@ pub overflow_add-place : goal.overflow_add-place
 overflow_add-place c =
     let h = c.loop-p in
     omega (arith, h.invariant.2.walked.small, h.invariant.0)
-
-pub loop-p-smaller : goal.loop-p-smaller
-loop-p-smaller c = omega arith
 
 pub loop-p-preserved : goal.loop-p-preserved
 loop-p-preserved c =

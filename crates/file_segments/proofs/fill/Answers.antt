@@ -8,16 +8,10 @@ use Rattle.file_segments.proofs.Described.{size_at_lem}
 use Rattle.file_segments.proofs.Walk.{laid_none, laid_next, laid_last, laid_all}
 use Rattle.file_segments.proofs.fill.Goals as goal
 
-pub clear-requires : goal.clear-requires
-clear-requires c = tt
-
 pub loop-p-init : goal.loop-p-init
 loop-p-init c =
     let h = c.args in
     (omega arith, refl, laid_none h.body.now _ (length h.memory.now) c.clear.ensures)
-
-pub store-requires : goal.store-requires
-store-requires c = tt
 
 pub returns-then-n-end : goal.returns-then-n-end
 returns-then-n-end c =
@@ -27,9 +21,6 @@ returns-then-n-end c =
     let start = c.two_bytes_at-start.ensures.0 in
     laid_last h.invariant.2 _ _ _ (omega arith) size start (omega arith) c.store.ensures
     ∙ ap (λ (n : ℕ). image n b (segments b)) (ap length c.clear.ensures ∙ length-replicate {A = ℕ} _ 0)
-
-pub store-requires-in-loop-p : goal.store-requires-in-loop-p
-store-requires-in-loop-p c = tt
 
 pub loop-p-preserved : goal.loop-p-preserved
 loop-p-preserved c =

@@ -13,9 +13,6 @@ loop-j-init c = (refl, skipped_none _ _ (omega (arith, c.if-n-eq0.false)))
 pub behind-at-requires : goal.behind-at-requires
 behind-at-requires c = c.loop-j.invariant.1.inside
 
-pub loop-j-smaller : goal.loop-j-smaller
-loop-j-smaller c = omega arith
-
 pub loop-j-preserved : goal.loop-j-preserved
 loop-j-preserved c =
     let h = c.loop-j in

@@ -27,9 +27,6 @@ overflow_add-used c =
 pub behind-at-requires : goal.behind-at-requires
 behind-at-requires c = c.loop-i.invariant.inside
 
-pub loop-i-smaller : goal.loop-i-smaller
-loop-i-smaller c = omega arith
-
 pub loop-i-preserved : goal.loop-i-preserved
 loop-i-preserved c =
     walked_more _ _ _ _ _ _ _ c.loop-i.invariant (omega arith) c.framed_one-one.ensures _ _

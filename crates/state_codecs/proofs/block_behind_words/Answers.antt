@@ -6,8 +6,5 @@ use Rattle.state_codecs.proofs.block_behind_words.Goals as goal
 pub returns-then-bytes-lt-BLOCK_AT : goal.returns-then-bytes-lt-BLOCK_AT
 returns-then-bytes-lt-BLOCK_AT c = no_block c.args.bytes.now c.if-bytes-lt-BLOCK_AT.true
 
-pub block_of-requires : goal.block_of-requires
-block_of-requires c = tt
-
 pub returns : goal.returns
 returns c = c.block_of.ensures ∙ some_block c.args.bytes.now

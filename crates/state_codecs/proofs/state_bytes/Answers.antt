@@ -4,9 +4,6 @@ use mathlib.Core.Path.{refl}
 use Rattle.state_codecs.proofs.Writing.{state_laid}
 use Rattle.state_codecs.proofs.state_bytes.Goals as goal
 
-pub store-requires : goal.store-requires
-store-requires c = tt
-
 pub returns : goal.returns
 returns c =
     let z = c.args in

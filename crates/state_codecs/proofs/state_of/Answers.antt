@@ -2,15 +2,6 @@
 use Rattle.state_codecs.proofs.States.{state_is}
 use Rattle.state_codecs.proofs.state_of.Goals as goal
 
-pub words_of-words-requires : goal.words_of-words-requires
-words_of-words-requires c = tt
-
-pub block_behind_words-block-requires : goal.block_behind_words-block-requires
-block_behind_words-block-requires c = tt
-
-pub number_at-total-requires : goal.number_at-total-requires
-number_at-total-requires c = tt
-
 pub returns : goal.returns
 returns c =
     state_is c.args.bytes.now _ _ _

@@ -2,9 +2,6 @@
 use Rattle.step_codecs.proofs.Values.{step_is}
 use Rattle.step_codecs.proofs.step_bytes.Goals as goal
 
-pub flags-f-requires : goal.flags-f-requires
-flags-f-requires c = tt
-
 pub returns : goal.returns
 returns c =
     step_is c.args.s _ c.flags-f.ensures

@@ -10,7 +10,7 @@ use layout::Layout;
 use steps::Step;
 
 // The four answer bytes of a step; bit 0 of `exposed` stands for the CPU's byte, bit 1 for the DMA's.
-#[derive(Drop)]
+#[derive(Clone, Copy)]
 pub struct StepAnswer {
     pub cause: u8,
     pub exposed: u8,

@@ -15,7 +15,7 @@ use Rattle.refusal.proofs.Settled.{row_settled}
 use Rattle.refusal.specs.declared.Answer.TheVariants.{Done}
 use Rattle.layout.specs.declared.Region.{Region}
 use Rattle.layout.specs.Regions.{within, size}
-use Rattle.layout.specs.Layouts.{MR, CTR, region, layout_of, layout_check}
+use Rattle.layout.specs.Layouts.{MR, CTR, layout_of, layout_check}
 use Rattle.layout.specs.Good.{Good}
 use Rattle.layout.specs.Calls.{memory_bytes}
 use Rattle.layout.proofs.Laws.{done_good, good_done, within_ends, elsewhere}

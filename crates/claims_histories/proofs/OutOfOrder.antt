@@ -16,8 +16,8 @@ use Rattle.notions.proofs.Tests.{cases, clash, untrue}
 use Rattle.refusal.specs.declared.Answer.TheVariants.{Done}
 use Rattle.layout.specs.declared.Region.{Region}
 use Rattle.layout.specs.declared.Layout.{Layout}
-use Rattle.layout.specs.Regions.{within, outside, size}
-use Rattle.layout.specs.Layouts.{KR, MR, CTR, AR, region, layout_of}
+use Rattle.layout.specs.Regions.{within, size}
+use Rattle.layout.specs.Layouts.{KR, MR, CTR, AR, layout_of}
 use Rattle.layout.specs.Good.{Good}
 use Rattle.layout.specs.Calls.{memory_bytes}
 use Rattle.layout.proofs.Laws.{good_done, zero_outside_lem, ends_within, outside_ends, elsewhere}
@@ -32,7 +32,7 @@ use Rattle.monitor.specs.declared.Traced.TheVariants as traced
 use Rattle.monitor.specs.Runs.{State, begin, before, resetting, memory_after, room_after}
 use Rattle.monitor.specs.Promises.{Traces, trace_call_check}
 use Rattle.monitor.proofs.Runs.{Alike, alike}
-use Rattle.board.specs.Memory.{bytes_of, key, counter, attested, reply_at}
+use Rattle.board.specs.Memory.{bytes_of, attested, reply_at}
 use Rattle.board.specs.Promises.{Attests}
 use Rattle.board.proofs.Stores.{stored_there, stored_off}
 use Rattle.board.proofs.Laws.{region_agrees}

@@ -7,7 +7,6 @@ use native.Mathlib.Omega.{arith}
 use lib.Dec.{eqb}
 use lib.ListN.{length, get_or}
 use Rattle.notions.specs.Choice.{pick}
-use Rattle.refusal.specs.Answers.{told}
 use Rattle.refusal.specs.declared.Answer.{Answer}
 use Rattle.notions.proofs.First.{first_same}
 use Rattle.notions.proofs.Tests.{cases}

@@ -1,4 +1,2 @@
 pub mod Laws
-pub mod Held
-pub mod Lent
 pub mod Settled

@@ -3,3 +3,4 @@ pub mod Loops
 pub mod Parts
 pub mod Laws
 pub mod Rest
+pub mod Roots

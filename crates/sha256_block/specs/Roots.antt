@@ -1,9 +1,7 @@
--- Where the constants come from (4.2.2 and 5.3.3): the first 32 bits of the fractional parts of roots of primes. The
--- checker works it out for each entry, so that no table has to be believed.
+-- Where the constants come from (4.2.2 and 5.3.3): the first 32 bits of the fractional parts of roots of primes.
 -- Assumes nothing.
-use Rattle.std.specs.Prelude.{◌≡◌, ℕ, zero, suc, ◌+◌, ◌*◌, ◌%◌, ◌^◌, Bool, true, false, not, ◌&&◌, List, [], ◌∷◌, ◌++◌, ◌==◌, nat_le, nat_lt, refl}
+use Rattle.std.specs.Prelude.{ℕ, zero, suc, ◌+◌, ◌*◌, ◌%◌, ◌^◌, Bool, true, false, not, ◌&&◌, List, [], ◌∷◌, ◌++◌, ◌==◌, nat_le, nat_lt}
 use Rattle.notions.specs.Choice.{pick}
-use Rattle.sha256_block.specs.Constants.{K, H}
 
 -- no number from 2 to n + 1 divides p
 unfoldable pub undivided : ℕ → ℕ → Bool
@@ -33,13 +31,3 @@ are_fractions e [] [] = true
 are_fractions e (p ∷ ps) (w ∷ ws) = is_fraction e p w && are_fractions e ps ws
 are_fractions e [] (w ∷ ws) = false
 are_fractions e (p ∷ ps) [] = false
-
--- 311 is the 64th prime
-pub round_constants : are_fractions 3 (primes 310) K ≡ true
-unfolding undivided primes root_below is_fraction are_fractions K
-round_constants = refl
-
--- 19 is the eighth
-pub initial_words : are_fractions 2 (primes 18) H ≡ true
-unfolding undivided primes root_below is_fraction are_fractions H
-initial_words = refl

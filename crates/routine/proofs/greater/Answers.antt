@@ -22,12 +22,11 @@ returns-then-x-y c =
     (omega arith) c.if-x-y.true
 
 pub loop-i-preserved : goal.loop-i-preserved
-loop-i-preserved c =
-    (
-      omega arith,
-      greater_more c.args.a.now c.args.b.now c.loop-i.i (omega arith)
-          c.loop-i.invariant.1 (omega arith) c.if-x-y.false,
-    )
+loop-i-preserved c = (
+  omega arith,
+  greater_more c.args.a.now c.args.b.now c.loop-i.i (omega arith)
+      c.loop-i.invariant.1 (omega arith) c.if-x-y.false,
+)
 
 pub returns : goal.returns
 returns c =

@@ -17,13 +17,12 @@ pub be4-b-requires : goal.be4-b-requires
 be4-b-requires c = tt
 
 pub loop-i-preserved : goal.loop-i-preserved
-loop-i-preserved c =
-    (
-      omega arith,
-      simp length-set (omega arith),
-      out_more c.args.words c.loop-i.d c.be4-b.result
-          c.loop-i.i (omega arith) c.loop-i.invariant.2 c.be4-b.ensures,
-    )
+loop-i-preserved c = (
+  omega arith,
+  simp length-set (omega arith),
+  out_more c.args.words c.loop-i.d c.be4-b.result
+      c.loop-i.i (omega arith) c.loop-i.invariant.2 c.be4-b.ensures,
+)
 
 pub returns : goal.returns
 returns c =

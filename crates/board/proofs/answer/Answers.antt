@@ -1,16 +1,14 @@
 -- `board::answer` meets its contract. Assumes nothing.
 use Rattle.board.proofs.Attests.{genuine, answered_done, answered_refused}
-use borrow.Author.Rules.{rules}
 use Rattle.board.proofs.answer.Goals as goal
 
 pub accept-requires : goal.accept-requires
-accept-requires c =
-    (
-      c.requires.0,
-      c.requires.1,
-      genuine c.args.l c.args.memory.now _ c.authorise.ensures
-          c.in-Done.is,
-    )
+accept-requires c = (
+  c.requires.0,
+  c.requires.1,
+  genuine c.args.l c.args.memory.now _ c.authorise.ensures
+      c.in-Done.is,
+)
 
 pub returns-in-Done : goal.returns-in-Done
 returns-in-Done c =

@@ -1,11 +1,7 @@
 -- `routine::greater` meets its contract. Assumes nothing.
-use mathlib.Core.Path.{◌≡◌, refl}
-use Prim.Native.Nat.{◌≤◌, ◌-◌}
+use mathlib.Core.Path.{refl}
 use native.Mathlib.Omega.{arith}
-use lib.ListN.{length, drop}
-use Rattle.routine.specs.Strings.{greater}
 use Rattle.routine.proofs.Strings.{greater_short, greater_more, greater_differ, greater_none}
-use borrow.Author.Rules.{rules}
 use Rattle.routine.proofs.greater.Goals as goal
 
 pub loop-i-init : goal.loop-i-init
@@ -22,12 +18,11 @@ returns-then-x-y c =
     (omega arith) c.if-x-y.true
 
 pub loop-i-preserved : goal.loop-i-preserved
-loop-i-preserved c =
-    (
-      omega arith,
-      greater_more c.args.a.now c.args.b.now c.loop-i.i (omega arith)
-          c.loop-i.invariant.1 (omega arith) c.if-x-y.false,
-    )
+loop-i-preserved c = (
+  omega arith,
+  greater_more c.args.a.now c.args.b.now c.loop-i.i (omega arith)
+      c.loop-i.invariant.1 (omega arith) c.if-x-y.false,
+)
 
 pub returns : goal.returns
 returns c =

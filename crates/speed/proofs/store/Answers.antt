@@ -1,7 +1,7 @@
 -- `speed::store` meets its contract. Assumes nothing.
 use mathlib.Core.Path.{◌≡◌, ap, ◌∙◌}
 use mathlib.Core.List.{◌++◌}
-use Prim.Native.Nat.{ℕ, ◌+◌}
+use Prim.Native.Nat.{ℕ, ◌+◌, ◌≤◌}
 use native.Mathlib.Omega.{arith}
 use borrow.Author.Tests.{le-ltb}
 use lib.ListN.{length, drop}
@@ -12,8 +12,6 @@ pub returns : goal.returns
 returns c =
     let b = c.args.bytes.now in
     let room = c.args.room.now in
-    let e : 0 + length b ≡ 32 = omega (arith, c.requires) in
-    simp (le-ltb _ _ c.if-room-lt-DIGEST_BYTES.false)
-    (c.store.ensures
-    ∙ sets-eq b room 0 (omega (arith, c.requires, c.if-room-lt-DIGEST_BYTES.false))
-    ∙ ap (λ (k : ℕ). b ++ drop k room) e)
+    let h : 32 ≤ length room = omega arith in
+    let e : 0 + length b ≡ 32 = omega arith in
+    simp (le-ltb _ _ h) (c.store.ensures ∙ sets-eq b room 0 (omega (arith, h, e)) ∙ ap (λ (k : ℕ). b ++ drop k room) e)

@@ -1,6 +1,5 @@
 -- `board::accept` meets its contract. Assumes nothing.
 use Rattle.board.proofs.Attests.{accepts}
-use borrow.Author.Rules.{rules}
 use Rattle.board.proofs.accept.Goals as goal
 
 pub returns : goal.returns

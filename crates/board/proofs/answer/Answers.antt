@@ -1,6 +1,5 @@
 -- `board::answer` meets its contract. Assumes nothing.
 use Rattle.board.proofs.Attests.{genuine, answered_done, answered_refused}
-use borrow.Author.Rules.{rules}
 use Rattle.board.proofs.answer.Goals as goal
 
 pub accept-requires : goal.accept-requires

@@ -3,7 +3,6 @@ use mathlib.Core.Path.{subst}
 use Rattle.refusal.specs.declared.Answer.TheVariants.{Done}
 use Rattle.layout.specs.Promises.{Admits}
 use Rattle.board.proofs.Attests.{admitted_sized, attest_answered, attest_refused}
-use borrow.Author.Rules.{rules}
 use Rattle.board.proofs.attest.Goals as goal
 
 pub answer-requires : goal.answer-requires

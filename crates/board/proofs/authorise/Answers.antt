@@ -1,6 +1,5 @@
 -- `board::authorise` meets its contract. Assumes nothing.
 use Rattle.board.proofs.Attests.{requested}
-use borrow.Author.Rules.{rules}
 use Rattle.board.proofs.authorise.Goals as goal
 
 pub returns : goal.returns

@@ -1,5 +1,4 @@
 -- `board::copy` meets its contract. Assumes nothing.
-use borrow.Author.Rules.{rules}
 use mathlib.Core.Path.{◌∙◌}
 use Rattle.octets.proofs.Laid.{laid_over}
 use Rattle.board.proofs.copy.Goals as goal

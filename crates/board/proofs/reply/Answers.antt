@@ -1,6 +1,5 @@
 -- `board::reply` meets its contract. Assumes nothing.
 use Rattle.board.proofs.Attests.{replied_to}
-use borrow.Author.Rules.{rules}
 use Rattle.board.proofs.reply.Goals as goal
 
 pub returns : goal.returns

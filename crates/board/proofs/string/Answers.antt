@@ -4,7 +4,6 @@ use Prim.Native.Nat.{◌+◌, ◌-◌}
 use native.Mathlib.Omega.{arith}
 use lib.ListN.{length, take, drop}
 use Rattle.board.proofs.Laws.{length_bytes_lem}
-use borrow.Author.Rules.{rules}
 use Rattle.board.proofs.string.Goals as goal
 
 pub returns : goal.returns

@@ -3,7 +3,6 @@ use native.Mathlib.Omega.{arith}
 use lib.ListN.{length}
 use Rattle.sha256.proofs.Laws.{over_not, gives_bytes}
 use Rattle.hmac.proofs.Keys.{key_long, key_short}
-use borrow.Author.Rules.{rules}
 use Rattle.hmac.proofs.key_block.Goals as goal
 
 pub returns-then-key-gt-BLOCK : goal.returns-then-key-gt-BLOCK

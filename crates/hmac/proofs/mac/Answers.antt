@@ -3,7 +3,6 @@ use borrow.Author.Tests.{ltb-false}
 use Rattle.notions.proofs.Tests.{neither}
 use Rattle.sha256.proofs.Answers.{gives_refused, gives_given}
 use Rattle.hmac.specs.Promises.{long}
-use borrow.Author.Rules.{rules}
 use Rattle.hmac.proofs.mac.Goals as goal
 
 pub returns-then-key-message : goal.returns-then-key-message

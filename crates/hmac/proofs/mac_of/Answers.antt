@@ -1,6 +1,5 @@
 -- `hmac::mac_of` meets its contract. Assumes nothing.
 use Rattle.hmac.specs.Hmac.{hmac}
-use borrow.Author.Rules.{rules}
 use Rattle.hmac.proofs.mac_of.Goals as goal
 
 pub returns : goal.returns

@@ -1,10 +1,6 @@
 -- `hmac::mask` meets its contract. Assumes nothing.
-use mathlib.Core.Path.{◌≡◌}
-use mathlib.Core.List.{◌++◌}
-use Prim.Native.Nat.{◌≤◌, ◌-◌}
 use native.Mathlib.Omega.{arith}
-use lib.ListN.{length, take, drop, length-set}
-use Rattle.hmac.specs.Hmac.{xored}
+use lib.ListN.{length-set}
 use Rattle.hmac.proofs.Masks.{mask_none, mask_more, mask_whole}
 use borrow.Author.Rules.{rules}
 use Rattle.hmac.proofs.mask.Goals as goal

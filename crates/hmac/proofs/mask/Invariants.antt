@@ -2,11 +2,8 @@
 use mathlib.Core.Path.{◌≡◌}
 use mathlib.Core.List.{◌++◌}
 use Prim.Native.Nat.{◌≤◌, ◌-◌}
-use native.Mathlib.Omega.{arith}
-use lib.ListN.{length, take, drop, length-set}
+use lib.ListN.{length, take, drop}
 use Rattle.hmac.specs.Hmac.{xored}
-use Rattle.hmac.proofs.Masks.{mask_none, mask_more, mask_whole}
-use borrow.Author.Rules.{rules}
 use Rattle.hmac.proofs.mask.Given as goal
 
 abbrev pub invariant-loop-i : goal.invariant-loop-i

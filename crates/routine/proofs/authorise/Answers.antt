@@ -1,7 +1,6 @@
 -- `routine::authorise` meets its contract. Assumes nothing.
 use mathlib.Core.Path.{sym, ◌∙◌}
 use Rattle.routine.proofs.Requests.{refuses_length, refuses_old, refuses_token, authorises}
-use borrow.Author.Rules.{rules}
 use Rattle.routine.proofs.authorise.Goals as goal
 
 pub returns-then-not-greater : goal.returns-then-not-greater

@@ -1,13 +1,7 @@
 -- `routine::equal` meets its contract. Assumes nothing.
-use mathlib.Core.Path.{◌≡◌, refl}
-use Prim.Native.Nat.{◌≤◌, ◌-◌}
+use mathlib.Core.Path.{refl}
 use native.Mathlib.Omega.{arith}
-use lib.ListN.{length, drop}
-use mathlib.Core.Bool.{◌&&◌}
-use lib.Dec.{eqb}
-use Rattle.routine.specs.Strings.{same}
 use Rattle.routine.proofs.Strings.{same_length, same_more, same_whole}
-use borrow.Author.Rules.{rules}
 use Rattle.routine.proofs.equal.Goals as goal
 
 pub returns-then-a-b : goal.returns-then-a-b

@@ -1,13 +1,10 @@
 -- `routine::equal` meets its contract. Assumes nothing.
-use mathlib.Core.Path.{◌≡◌, refl}
+use mathlib.Core.Path.{◌≡◌}
 use Prim.Native.Nat.{◌≤◌, ◌-◌}
-use native.Mathlib.Omega.{arith}
 use lib.ListN.{length, drop}
 use mathlib.Core.Bool.{◌&&◌}
 use lib.Dec.{eqb}
 use Rattle.routine.specs.Strings.{same}
-use Rattle.routine.proofs.Strings.{same_length, same_more, same_whole}
-use borrow.Author.Rules.{rules}
 use Rattle.routine.proofs.equal.Given as goal
 
 abbrev pub invariant-loop-at : goal.invariant-loop-at

@@ -1,11 +1,7 @@
 -- `routine::greater` meets its contract. Assumes nothing.
-use mathlib.Core.Path.{◌≡◌, refl}
-use Prim.Native.Nat.{◌≤◌, ◌-◌}
+use mathlib.Core.Path.{refl}
 use native.Mathlib.Omega.{arith}
-use lib.ListN.{length, drop}
-use Rattle.routine.specs.Strings.{greater}
 use Rattle.routine.proofs.Strings.{greater_short, greater_more, greater_differ, greater_none}
-use borrow.Author.Rules.{rules}
 use Rattle.routine.proofs.greater.Goals as goal
 
 pub loop-i-init : goal.loop-i-init

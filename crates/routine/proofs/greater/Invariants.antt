@@ -1,11 +1,8 @@
 -- `routine::greater` meets its contract. Assumes nothing.
-use mathlib.Core.Path.{◌≡◌, refl}
+use mathlib.Core.Path.{◌≡◌}
 use Prim.Native.Nat.{◌≤◌, ◌-◌}
-use native.Mathlib.Omega.{arith}
 use lib.ListN.{length, drop}
 use Rattle.routine.specs.Strings.{greater}
-use Rattle.routine.proofs.Strings.{greater_short, greater_more, greater_differ, greater_none}
-use borrow.Author.Rules.{rules}
 use Rattle.routine.proofs.greater.Given as goal
 
 abbrev pub invariant-loop-i : goal.invariant-loop-i

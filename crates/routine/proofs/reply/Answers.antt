@@ -1,6 +1,5 @@
 -- `routine::reply` meets its contract. Assumes nothing.
 use Rattle.routine.proofs.Requests.{reply_refused, reply_made}
-use borrow.Author.Rules.{rules}
 use Rattle.routine.proofs.reply.Goals as goal
 
 pub returns-then-key-challenge : goal.returns-then-key-challenge

@@ -1,7 +1,6 @@
 -- `routine::reply_to` meets its contract. Assumes nothing.
 use Rattle.sha256.proofs.Answers.{gives_refused}
 use Rattle.routine.proofs.Requests.{reply_to_made}
-use borrow.Author.Rules.{rules}
 use Rattle.routine.proofs.reply_to.Goals as goal
 
 pub returns-then-key-t : goal.returns-then-key-t

@@ -1,6 +1,5 @@
 -- `routine::token` meets its contract. Assumes nothing.
 use Rattle.routine.proofs.Requests.{token_made}
-use borrow.Author.Rules.{rules}
 use Rattle.routine.proofs.token.Goals as goal
 
 pub returns : goal.returns

@@ -1,7 +1,6 @@
 -- `station::check` meets its contract. Assumes nothing.
 use mathlib.Core.Path.{sym, ◌∙◌}
 use Rattle.station.proofs.Checks.{check_refused, check_yes, check_no}
-use borrow.Author.Rules.{rules}
 use Rattle.station.proofs.check.Goals as goal
 
 pub returns-then-key-challenge : goal.returns-then-key-challenge

@@ -1,7 +1,6 @@
 -- `station::token` meets its contract. Assumes nothing.
 use Rattle.sha256.proofs.Answers.{gives_refused}
 use Rattle.station.proofs.Checks.{token_given}
-use borrow.Author.Rules.{rules}
 use Rattle.station.proofs.token.Goals as goal
 
 pub returns-then-key-challenge : goal.returns-then-key-challenge

@@ -19,7 +19,7 @@ pub const DIGEST: usize = sha256_digest::DIGEST;
 
 // A hash under way: the hash value after the whole blocks, the block that is being filled, and how many bytes came.
 // The first total % 64 bytes of the block are its filled part, so every value of this type has a meaning.
-#[derive(Drop)]
+#[derive(Clone, Copy)]
 pub struct Sha {
     pub words: [u32; 8],
     pub block: [u8; BLOCK],

@@ -3,7 +3,6 @@ use mathlib.Core.Path.{◌∙◌}
 use native.Mathlib.Omega.{arith}
 use lib.ListN.{take, length-take}
 use Rattle.sha256.proofs.Running.{block_stored, block_cut}
-use borrow.Author.Rules.{rules}
 use Rattle.sha256.proofs.block_of.Goals as goal
 
 pub returns-then-bytes-lt-BLOCK : goal.returns-then-bytes-lt-BLOCK

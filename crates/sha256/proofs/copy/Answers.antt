@@ -1,5 +1,4 @@
 -- `sha256::copy` meets its contract. Assumes nothing.
-use borrow.Author.Rules.{rules}
 use mathlib.Core.Path.{◌∙◌}
 use Rattle.octets.proofs.Laid.{laid_whole}
 use Rattle.sha256.proofs.copy.Goals as goal

@@ -1,5 +1,4 @@
 -- `sha256_digest::copy` meets its contract. Assumes nothing.
-use borrow.Author.Rules.{rules}
 use mathlib.Core.Path.{◌∙◌}
 use Rattle.octets.proofs.Laid.{laid_whole}
 use Rattle.sha256_digest.proofs.copy.Goals as goal

@@ -4,7 +4,6 @@ use native.Mathlib.Omega.{arith}
 use lib.ListN.{length-take}
 use lib.Seq.{length-take-le}
 use borrow.Author.Tests.{le-leb, lt-leb}
-use borrow.Author.Rules.{rules}
 use Rattle.sha256_digest.proofs.digest_from.Goals as goal
 
 pub returns-then-total-ge-BEYOND_STANDARD : goal.returns-then-total-ge-BEYOND_STANDARD

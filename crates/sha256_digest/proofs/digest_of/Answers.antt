@@ -8,7 +8,6 @@ use Rattle.sha256_digest.specs.Hash.{padding, out}
 use Rattle.sha256_block.proofs.Rest.{left_behind}
 use Rattle.sha256_digest.proofs.Laws.{hashed}
 use borrow.Author.Tests.{le-leb, lt-leb}
-use borrow.Author.Rules.{rules}
 use Rattle.sha256_digest.proofs.digest_of.Goals as goal
 
 pub returns-then-n-ge-BEYOND_STANDARD : goal.returns-then-n-ge-BEYOND_STANDARD

@@ -2,7 +2,6 @@
 use native.Mathlib.Omega.{arith}
 use lib.ListN.{length-take}
 use Rattle.sha256_digest.proofs.Padding.{closed}
-use borrow.Author.Rules.{rules}
 use Rattle.sha256_digest.proofs.last_digest.Goals as goal
 
 pub slice_bounds-blocks-end : goal.slice_bounds-blocks-end

@@ -2,7 +2,6 @@
 use native.Mathlib.Omega.{arith}
 use Rattle.sha256_digest.proofs.Padding.{length_be8, written}
 use lib.ListN.{length-set}
-use borrow.Author.Rules.{rules}
 use Rattle.sha256_digest.proofs.padded.Goals as goal
 
 pub be8-b-requires : goal.be8-b-requires

@@ -1,7 +1,6 @@
 -- `sha256_digest::output::be8` meets its contract. Assumes nothing.
 use native.Mathlib.Nat.{div-one}
 use Rattle.sha256_block.specs.Words.{bytes}
-use borrow.Author.Rules.{rules}
 use Rattle.sha256_digest.proofs.output.be8.Goals as goal
 
 pub returns : goal.returns

@@ -1,12 +1,8 @@
 -- `sha256_digest::output::out` meets its contract. Assumes nothing.
-use mathlib.Core.Path.{◌≡◌, refl}
+use mathlib.Core.Path.{◌≡◌}
 use Prim.Native.Nat.{◌≤◌, ◌-◌, ◌*◌}
-use native.Mathlib.Omega.{arith}
-use lib.ListN.{length, take, length-set}
-use lib.Seq.{take_all}
+use lib.ListN.{length, take}
 use Rattle.sha256_digest.specs.Hash.{out}
-use Rattle.sha256_digest.proofs.Lists.{out_more}
-use borrow.Author.Rules.{rules}
 use Rattle.sha256_digest.proofs.output.out.Given as goal
 
 abbrev pub invariant-loop-i : goal.invariant-loop-i

@@ -1,24 +1,29 @@
 // The calls of board and station.
 use crate::{lent_argument, line};
 use frames::argument;
+use std::io;
+use std::io::Write;
 
-fn attest_on(call: &[u8], memory: &mut [u8]) {
-    line::attested(board::attest(memory, argument(call, 1)));
-    line::memory(memory);
+fn attest_on(out: &mut impl Write, call: &[u8], memory: &mut [u8]) -> io::Result<()> {
+    line::attested(out, board::attest(memory, argument(call, 1)))?;
+    line::memory(out, memory)
 }
 
-pub fn attest(call: &[u8], memory: &mut [u8]) {
+pub fn attest(out: &mut impl Write, call: &[u8], memory: &mut [u8]) -> io::Result<()> {
     let m = lent_argument::copy(call, 0, memory);
-    attest_on(call, &mut memory[0..m]);
+    attest_on(out, call, &mut memory[0..m])
 }
 
-pub fn token(call: &[u8]) {
-    line::token(station::token(argument(call, 0), argument(call, 1)));
+pub fn token(out: &mut impl Write, call: &[u8]) -> io::Result<()> {
+    line::token(out, station::token(argument(call, 0), argument(call, 1)))
 }
 
-pub fn check_reply(call: &[u8]) {
+pub fn check_reply(out: &mut impl Write, call: &[u8]) -> io::Result<()> {
     let key = argument(call, 0);
     let challenge = argument(call, 1);
     let reply = argument(call, 2);
-    line::verdict(station::check(key, challenge, reply, argument(call, 3)));
+    line::verdict(
+        out,
+        station::check(key, challenge, reply, argument(call, 3)),
+    )
 }

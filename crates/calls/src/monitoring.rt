@@ -1,32 +1,60 @@
 // The calls of layout and monitor.
 use crate::{lent_argument, line};
 use frames::argument;
+use std::io;
+use std::io::Write;
 
-pub fn check(call: &[u8]) {
-    line::checked(layout::check(argument(call, 0)));
+pub fn check(out: &mut impl Write, call: &[u8]) -> io::Result<()> {
+    line::checked(out, layout::check(argument(call, 0)))
 }
 
-fn step_on(call: &[u8], memory: &mut [u8], room: &mut [u8]) {
+fn step_on(
+    out: &mut impl Write,
+    call: &[u8],
+    memory: &mut [u8],
+    room: &mut [u8],
+) -> io::Result<()> {
     let from = step_codecs::monitor_of(argument(call, 3));
-    line::stepped(monitor::step(memory, argument(call, 1), argument(call, 2), from, room));
-    line::memory(memory);
-    line::room(room);
+    line::stepped(
+        out,
+        monitor::step(memory, argument(call, 1), argument(call, 2), from, room),
+    )?;
+    line::memory(out, memory)?;
+    line::room(out, room)
 }
 
-pub fn step(call: &[u8], memory: &mut [u8], room: &mut [u8]) {
+pub fn step(
+    out: &mut impl Write,
+    call: &[u8],
+    memory: &mut [u8],
+    room: &mut [u8],
+) -> io::Result<()> {
     let m = lent_argument::copy(call, 0, memory);
     let r = lent_argument::copy(call, 4, room);
-    step_on(call, &mut memory[0..m], &mut room[0..r]);
+    step_on(out, call, &mut memory[0..m], &mut room[0..r])
 }
 
-fn trace_on(call: &[u8], memory: &mut [u8], room: &mut [u8]) {
-    line::traced(monitor::trace(memory, argument(call, 1), argument(call, 2), room));
-    line::memory(memory);
-    line::room(room);
+fn trace_on(
+    out: &mut impl Write,
+    call: &[u8],
+    memory: &mut [u8],
+    room: &mut [u8],
+) -> io::Result<()> {
+    line::traced(
+        out,
+        monitor::trace(memory, argument(call, 1), argument(call, 2), room),
+    )?;
+    line::memory(out, memory)?;
+    line::room(out, room)
 }
 
-pub fn trace(call: &[u8], memory: &mut [u8], room: &mut [u8]) {
+pub fn trace(
+    out: &mut impl Write,
+    call: &[u8],
+    memory: &mut [u8],
+    room: &mut [u8],
+) -> io::Result<()> {
     let m = lent_argument::copy(call, 0, memory);
     let r = lent_argument::copy(call, 3, room);
-    trace_on(call, &mut memory[0..m], &mut room[0..r]);
+    trace_on(out, call, &mut memory[0..m], &mut room[0..r])
 }

@@ -1,10 +1,11 @@
 // Calls on standard input.
-ghost use Rattle.std.specs.Prelude.{◌≡◌, ◌+◌, ◌≤◌, ◌<◌, length, take};
+ghost use Rattle.std.specs.Prelude.{◌≡◌, ◌+◌, ◌≤◌, ◌<◌, length, take, IfOk};
 ghost use Rattle.frames.specs.Frames as F;
 ghost use Rattle.frames.specs.Streams as S;
 
 use frames::Framed;
-use libc::STDIN_FILENO;
+use std::io;
+use std::io::Read;
 
 // Whether a call stands at the room's start, there is none more, or it is cut.
 #[derive(Drop)]
@@ -26,11 +27,11 @@ fn so_far(room: &[u8], n: usize) -> Framed
 }
 
 // Reads k bytes more behind them, and answers how many came.
-fn more(room: &mut [u8], n: usize, k: usize) -> usize
+fn more(input: &mut impl Read, room: &mut [u8], n: usize, k: usize) -> io::Result<usize>
     requires { n + k ≤ length room.old }
-    ensures { result ≤ k }
+    ensures { IfOk result (λ came. came ≤ k) }
 {
-    io::read_full(STDIN_FILENO, &mut room[n..n + k])
+    input::read_full(input, &mut room[n..n + k])
 }
 
 // The input has ended behind n bytes of a call.
@@ -38,28 +39,28 @@ fn ended(n: usize) -> Next {
     if n == 0 { Next::End } else { Next::Cut }
 }
 
-fn read_into(room: &mut [u8]) -> Next
+fn read_into(input: &mut impl Read, room: &mut [u8]) -> io::Result<Next>
     requires { S.longest < length room.old }
 {
     let mut n = 0;
     while n < room.len() {
         match so_far(room, n) {
-            Framed::Whole => return Next::Call,
-            Framed::Cut => return Next::Cut,
+            Framed::Whole => return Ok(Next::Call),
+            Framed::Cut => return Ok(Next::Cut),
             Framed::Needs(k) => {
-                let came = more(room, n, k);
+                let came = more(input, room, n, k)?;
                 if came < k {
-                    return ended(n + came);
+                    return Ok(ended(n + came));
                 }
                 n += k;
             }
         }
     }
-    Next::Cut
+    Ok(Next::Cut)
 }
 
 // Reads a call into the room, and never a byte that is not the call's. What stands behind it there is left from calls
 // before.
-pub fn read(room: &mut [u8; ROOM]) -> Next {
-    read_into(room)
+pub fn read(input: &mut impl Read, room: &mut [u8; ROOM]) -> io::Result<Next> {
+    read_into(input, room)
 }

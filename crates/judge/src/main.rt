@@ -2,14 +2,19 @@
 // have, so that a longer one is told from it.
 #![tactic(auto)]
 
-use libc::{STDIN_FILENO, STDOUT_FILENO};
+use std::io;
+use std::io::{Read, Write};
 
-fn main() {
+fn judge(input: &mut impl Read, out: &mut impl Write) -> io::Result<()> {
     let mut file = [0u8; file_contents::LARGEST_FILE + 1];
     let mut memory = [0u8; layout::MEMORY_BYTES];
     let mut room = [0u8; traces::ANSWER * traces::MOST_STEPS];
-    let mut out = [0u8; report::LONGEST];
-    let n = io::read_full(STDIN_FILENO, &mut file);
-    let k = report::text(&file[0..n], &mut memory, &mut room, &mut out);
-    io::write_all(STDOUT_FILENO, &out[0..k]);
+    let mut text = [0u8; report::LONGEST];
+    let n = input::read_full(input, &mut file)?;
+    let k = report::text(&file[0..n], &mut memory, &mut room, &mut text);
+    out.write_all(&text[0..k])
+}
+
+fn main(rt: HostRuntime) -> io::Result<()> {
+    judge(&mut rt.stdin(), &mut rt.stdout())
 }

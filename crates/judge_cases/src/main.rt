@@ -6,7 +6,8 @@
 
 ghost use Rattle.std.specs.Prelude.{◌≤◌, length};
 
-use libc::{STDIN_FILENO, STDOUT_FILENO};
+use std::io;
+use std::io::{Read, Write};
 
 type Memory = [u8; layout::MEMORY_BYTES];
 
@@ -25,51 +26,74 @@ fn fill(memory: &mut Memory) {
     }
 }
 
-fn print(file: &[u8], memory: &mut Memory, room: &mut Room) {
-    let mut out = [0u8; report::LONGEST];
-    let k = report::text(file, memory, room, &mut out);
-    io::write_all(STDOUT_FILENO, &out[0..k]);
+fn print(
+    out: &mut impl Write,
+    file: &[u8],
+    memory: &mut Memory,
+    room: &mut Room,
+) -> io::Result<()> {
+    let mut text = [0u8; report::LONGEST];
+    let k = report::text(file, memory, room, &mut text);
+    out.write_all(&text[0..k])
 }
 
 // Reads n bytes, judges them, and tells whether they were there.
-fn judge(file: &mut [u8], n: usize, memory: &mut Memory, room: &mut Room) -> bool
+fn judge(
+    input: &mut impl Read,
+    out: &mut impl Write,
+    file: &mut [u8],
+    n: usize,
+    memory: &mut Memory,
+    room: &mut Room,
+) -> io::Result<bool>
     requires { n ≤ length file.old }
 {
-    if io::read_full(STDIN_FILENO, &mut file[0..n]) < n {
-        return false;
+    if input::read_full(input, &mut file[0..n])? < n {
+        return Ok(false);
     }
-    print(&file[0..n], memory, room);
-    true
+    print(out, &file[0..n], memory, room)?;
+    Ok(true)
 }
 
 // Judges the next file, and tells whether there was one.
-fn next(memory: &mut Memory, room: &mut Room) -> bool {
+fn next(
+    input: &mut impl Read,
+    out: &mut impl Write,
+    memory: &mut Memory,
+    room: &mut Room,
+) -> io::Result<bool> {
     let mut length = [0u8; LENGTH_SIZE];
     let mut file = [0u8; MOST_READ];
-    let got = io::read_full(STDIN_FILENO, &mut length);
+    let got = input::read_full(input, &mut length)?;
     if got == 0 {
-        return false;
+        return Ok(false);
     }
     let n = octets::number(&length) as usize;
-    if got == LENGTH_SIZE && n <= MOST_READ && judge(&mut file, n, memory, room) {
-        return true;
+    if got == LENGTH_SIZE && n <= MOST_READ && judge(input, out, &mut file, n, memory, room)? {
+        return Ok(true);
     }
     // The length is too great, or the input ends before the file does.
-    io::write_all(STDOUT_FILENO, b"cut\n");
-    false
+    out.write_all(b"cut\n")?;
+    Ok(false)
 }
 
 // Nothing says that the input ends, and a proved loop has to: the turns count down from a number that no run uses up.
-fn all(memory: &mut Memory, room: &mut Room) {
+fn all(
+    input: &mut impl Read,
+    out: &mut impl Write,
+    memory: &mut Memory,
+    room: &mut Room,
+) -> io::Result<()> {
     let mut turns = u64::MAX;
-    while turns > 0 && next(memory, room) {
+    while turns > 0 && next(input, out, memory, room)? {
         turns -= 1;
     }
+    Ok(())
 }
 
-fn main() {
+fn main(rt: HostRuntime) -> io::Result<()> {
     let mut memory = [0u8; layout::MEMORY_BYTES];
     let mut room = [0u8; traces::ANSWER * traces::MOST_STEPS];
     fill(&mut memory);
-    all(&mut memory, &mut room);
+    all(&mut rt.stdin(), &mut rt.stdout(), &mut memory, &mut room)
 }

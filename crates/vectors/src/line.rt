@@ -1,120 +1,123 @@
 // A line of output: the call, the name of its input, the input's numbers, and the answer, one space apart.
-use libc::STDOUT_FILENO;
 use refusal::{Answer, Refusal};
 use sha256::{Bytes32, Sha};
+use std::io;
+use std::io::Write;
 
-fn text(bytes: &[u8]) {
-    io::write_all(STDOUT_FILENO, bytes);
+fn text(out: &mut impl Write, bytes: &[u8]) -> io::Result<()> {
+    out.write_all(bytes)
 }
 
-fn number(n: u64) {
-    text(b" ");
-    io::print_decimal(STDOUT_FILENO, n);
+fn number(out: &mut impl Write, n: u64) -> io::Result<()> {
+    text(out, b" ")?;
+    write!(out, "{n}")
 }
 
-fn length(bytes: &[u8]) {
-    number(bytes.len() as u64);
+fn length(out: &mut impl Write, bytes: &[u8]) -> io::Result<()> {
+    number(out, bytes.len() as u64)
 }
 
 fn wide(x: u8) -> u64 {
     x as u64
 }
 
-fn hex(bytes: &[u8]) {
-    text(b" ");
+fn hex(out: &mut impl Write, bytes: &[u8]) -> io::Result<()> {
+    text(out, b" ")?;
     let mut i = 0;
     while i < bytes.len() {
-        io::print_hex(STDOUT_FILENO, wide(bytes[i]), 2);
+        let b = bytes[i];
+        write!(out, "{b:02x}")?;
         i += 1;
     }
+    Ok(())
 }
 
-fn word(x: u32) {
-    io::print_hex(STDOUT_FILENO, x as u64, 8);
+fn word(out: &mut impl Write, x: u32) -> io::Result<()> {
+    write!(out, "{x:08x}")
 }
 
-fn words(w: [u32; 8]) {
-    text(b" ");
-    word(w[0]);
-    word(w[1]);
-    word(w[2]);
-    word(w[3]);
-    word(w[4]);
-    word(w[5]);
-    word(w[6]);
-    word(w[7]);
+fn words(out: &mut impl Write, w: [u32; 8]) -> io::Result<()> {
+    text(out, b" ")?;
+    word(out, w[0])?;
+    word(out, w[1])?;
+    word(out, w[2])?;
+    word(out, w[3])?;
+    word(out, w[4])?;
+    word(out, w[5])?;
+    word(out, w[6])?;
+    word(out, w[7])
 }
 
-fn begin(call: &[u8], name: &[u8]) {
-    text(call);
-    text(b" ");
-    text(name);
+fn begin(out: &mut impl Write, call: &[u8], name: &[u8]) -> io::Result<()> {
+    text(out, call)?;
+    text(out, b" ")?;
+    text(out, name)
 }
 
-fn end() {
-    text(b"\n");
+fn end(out: &mut impl Write) -> io::Result<()> {
+    text(out, b"\n")
 }
 
-fn refused(r: Refusal) {
-    text(b" refused");
-    number(wide(r.number));
-    number(r.place as u64);
+fn refused(out: &mut impl Write, r: Refusal) -> io::Result<()> {
+    text(out, b" refused")?;
+    number(out, wide(r.number))?;
+    number(out, r.place as u64)
 }
 
-fn digest(d: Bytes32) {
+fn digest(out: &mut impl Write, d: Bytes32) -> io::Result<()> {
     let answer = d.answer;
     let bytes = d.bytes;
     match answer {
-        Answer::Done => hex(&bytes),
-        Answer::Refused(r) => refused(r),
+        Answer::Done => hex(out, &bytes)?,
+        Answer::Refused(r) => refused(out, r)?,
     }
-    end();
+    end(out)
 }
 
-fn taken(answer: Answer) {
+fn taken(out: &mut impl Write, answer: Answer) -> io::Result<()> {
     match answer {
-        Answer::Done => text(b" taken"),
-        Answer::Refused(r) => refused(r),
+        Answer::Done => text(out, b" taken"),
+        Answer::Refused(r) => refused(out, r),
     }
 }
 
-fn state(s: Sha) {
+fn state(out: &mut impl Write, s: Sha) -> io::Result<()> {
     let w = s.words;
     let block = s.block;
-    words(w);
-    hex(&block);
-    number(s.total);
-    end();
+    words(out, w)?;
+    hex(out, &block)?;
+    number(out, s.total)?;
+    end(out)
 }
 
-pub fn hash(name: &[u8], message: &[u8]) {
-    begin(b"sha256", name);
-    length(message);
-    digest(sha256::hash(message));
+pub fn hash(out: &mut impl Write, name: &[u8], message: &[u8]) -> io::Result<()> {
+    begin(out, b"sha256", name)?;
+    length(out, message)?;
+    digest(out, sha256::hash(message))
 }
 
-pub fn mac(name: &[u8], key: &[u8], message: &[u8]) {
-    begin(b"hmac", name);
-    length(key);
-    length(message);
-    digest(hmac::mac(key, message));
+pub fn mac(out: &mut impl Write, name: &[u8], key: &[u8], message: &[u8]) -> io::Result<()> {
+    begin(out, b"hmac", name)?;
+    length(out, key)?;
+    length(out, message)?;
+    digest(out, hmac::mac(key, message))
 }
 
 // Prints the whole state that was handed back, so that its block shows, and hands it on.
-pub fn take_in(name: &[u8], s: Sha, bytes: &[u8]) -> Sha {
-    begin(b"take_in", name);
-    number(s.total);
-    length(bytes);
+pub fn take_in(out: &mut impl Write, name: &[u8], s: Sha, bytes: &[u8]) -> io::Result<Sha> {
+    begin(out, b"take_in", name)?;
+    number(out, s.total)?;
+    length(out, bytes)?;
     let t = s.take_in(bytes);
     let answer = t.answer;
     let next = t.state;
-    taken(answer);
-    state(next);
-    next
+    taken(out, answer)?;
+    state(out, next)?;
+    Ok(next)
 }
 
-pub fn finish(name: &[u8], s: Sha) {
-    begin(b"finish", name);
-    number(s.total);
-    digest(s.finish());
+pub fn finish(out: &mut impl Write, name: &[u8], s: Sha) -> io::Result<()> {
+    begin(out, b"finish", name)?;
+    number(out, s.total)?;
+    digest(out, s.finish())
 }

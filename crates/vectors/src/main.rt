@@ -9,20 +9,23 @@ mod published;
 mod running;
 
 use lengths::Pattern;
+use std::io;
+use std::io::Write;
 
-fn cases_of(pattern: &Pattern) {
-    lengths::hashes(pattern);
-    lengths::keys(pattern);
-    lengths::messages(pattern);
-    running::in_parts(pattern);
-    running::started();
-    running::made_up();
-    running::to_the_limit(pattern);
+fn cases_of(out: &mut impl Write, pattern: &Pattern) -> io::Result<()> {
+    lengths::hashes(out, pattern)?;
+    lengths::keys(out, pattern)?;
+    lengths::messages(out, pattern)?;
+    running::in_parts(out, pattern)?;
+    running::started(out)?;
+    running::made_up(out)?;
+    running::to_the_limit(out, pattern)
 }
 
-fn main() {
-    published::examples();
+fn main(rt: HostRuntime) -> io::Result<()> {
+    let mut out = rt.stdout();
+    published::examples(&mut out)?;
     let mut pattern = [0u8; lengths::PATTERN_BYTES];
     lengths::fill(&mut pattern);
-    cases_of(&pattern);
+    cases_of(&mut out, &pattern)
 }

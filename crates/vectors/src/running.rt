@@ -4,6 +4,8 @@ ghost use Rattle.std.specs.Prelude.{◌≡◌, ◌≤◌, length};
 use crate::lengths::Pattern;
 use crate::line;
 use sha256::Sha;
+use std::io;
+use std::io::Write;
 
 fn after(state: Sha, bytes: &[u8]) -> Sha {
     let t = state.take_in(bytes);
@@ -35,17 +37,17 @@ fn parts(message: &[u8]) -> Sha {
 }
 
 // The first n bytes in parts, and then one byte more.
-fn first_in_parts(pattern: &[u8], n: usize)
+fn first_in_parts(out: &mut impl Write, pattern: &[u8], n: usize) -> io::Result<()>
     requires { n ≤ length pattern.now }
 {
     let whole = parts(&pattern[0..n]);
-    line::finish(b"parts", whole);
-    let more = line::take_in(b"parts", whole, b"x");
-    line::finish(b"parts", more);
+    line::finish(out, b"parts", whole)?;
+    let more = line::take_in(out, b"parts", whole, b"x")?;
+    line::finish(out, b"parts", more)
 }
 
-pub fn in_parts(pattern: &Pattern) {
-    first_in_parts(pattern, 131072);
+pub fn in_parts(out: &mut impl Write, pattern: &Pattern) -> io::Result<()> {
+    first_in_parts(out, pattern, 131072)
 }
 
 // A state of any total, whose block has no zero byte.
@@ -67,43 +69,44 @@ fn state(total: u64) -> Sha {
 }
 
 // An object that holds anything is lent to be started.
-pub fn started() {
+pub fn started(out: &mut impl Write) -> io::Result<()> {
     let held = state(7);
     let words = held.words;
     let block = held.block;
     let s = lent_hash::start_with_fields(words, block, held.total);
-    line::take_in(b"started", s, b"");
-    line::finish(b"started", s);
+    line::take_in(out, b"started", s, b"")?;
+    line::finish(out, b"started", s)
 }
 
-fn made_up_state(total: u64) {
+fn made_up_state(out: &mut impl Write, total: u64) -> io::Result<()> {
     let s = state(total);
-    line::take_in(b"made-up", s, b"");
-    line::take_in(b"made-up", s, b"x");
-    line::finish(b"made-up", s);
+    line::take_in(out, b"made-up", s, b"")?;
+    line::take_in(out, b"made-up", s, b"x")?;
+    line::finish(out, b"made-up", s)
 }
 
-pub fn made_up() {
-    made_up_state(0);
-    made_up_state(1);
-    made_up_state(55);
-    made_up_state(56);
-    made_up_state(63);
-    made_up_state(131071);
-    made_up_state(131072);
-    made_up_state(131073);
-    made_up_state(0x1_0000_0000);
-    made_up_state(0xffff_ffff_ffff_ffff);
+pub fn made_up(out: &mut impl Write) -> io::Result<()> {
+    made_up_state(out, 0)?;
+    made_up_state(out, 1)?;
+    made_up_state(out, 55)?;
+    made_up_state(out, 56)?;
+    made_up_state(out, 63)?;
+    made_up_state(out, 131071)?;
+    made_up_state(out, 131072)?;
+    made_up_state(out, 131073)?;
+    made_up_state(out, 0x1_0000_0000)?;
+    made_up_state(out, 0xffff_ffff_ffff_ffff)
 }
 
-fn many_bytes(total: u64, pattern: &[u8], n: usize)
+fn many_bytes(out: &mut impl Write, total: u64, pattern: &[u8], n: usize) -> io::Result<()>
     requires { n ≤ length pattern.now }
 {
-    line::take_in(b"made-up", state(total), &pattern[0..n]);
+    line::take_in(out, b"made-up", state(total), &pattern[0..n])?;
+    Ok(())
 }
 
-pub fn to_the_limit(pattern: &Pattern) {
-    many_bytes(1, pattern, 131071);
-    many_bytes(1, pattern, 131072);
-    many_bytes(0, pattern, 131073);
+pub fn to_the_limit(out: &mut impl Write, pattern: &Pattern) -> io::Result<()> {
+    many_bytes(out, 1, pattern, 131071)?;
+    many_bytes(out, 1, pattern, 131072)?;
+    many_bytes(out, 0, pattern, 131073)
 }

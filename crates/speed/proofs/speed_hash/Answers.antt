@@ -1,0 +1,6 @@
+-- `speed::speed_hash` meets its contract. Assumes nothing.
+use Rattle.speed.proofs.Rooms.{holds}
+use Rattle.speed.proofs.speed_hash.Goals as goal
+
+pub returns : goal.returns
+returns c = holds _ _ c.args.room.now _ c.store.ensures c.hash.ensures.given

@@ -29,7 +29,8 @@ fn so_far(room: &[u8], n: usize) -> Framed
 // Reads k bytes more behind them, and answers how many came.
 fn more(input: &mut impl Read, room: &mut [u8], n: usize, k: usize) -> io::Result<usize>
     requires { n + k ≤ length room.old }
-    ensures { IfOk result (λ came. came ≤ k) }
+    ensures within { IfOk result (λ came. came ≤ k) }
+    ensures kept { length room.new ≡ length room.old }
 {
     input::read_full(input, &mut room[n..n + k])
 }

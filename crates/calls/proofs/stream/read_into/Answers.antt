@@ -13,7 +13,7 @@ pub overflow_add-n : goal.overflow_add-n
 overflow_add-n g c =
     let l = c.loop-n in
     let s = asked l.room l.n _ _ (omega arith) c.in-Needs.ensures refl in
-    omega (arith, s.1, c.in_ok-came-in-Needs.ensures)
+    omega (arith, s.1, c.in_ok-came-in-Needs.ensures.within)
 
 pub overflow_add-n-in-Needs : goal.overflow_add-n-in-Needs
 overflow_add-n-in-Needs g c =

@@ -4,7 +4,7 @@
 #include <openssl/sha.h>
 #include <sodium.h>
 
-// The Rattle functions of crates/speed; a slice is a pointer and a length.
+// The Rattle functions that crates/speed_c exports; a slice is a pointer and a length.
 void speed_hash(const uint8_t *message, size_t length, uint8_t *room, size_t room_length);
 void speed_mac(const uint8_t *key, size_t key_length, const uint8_t *message, size_t length, uint8_t *room, size_t room_length);
 attest_function speed_attest;

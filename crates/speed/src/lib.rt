@@ -1,5 +1,5 @@
-// The hash, the MAC, attestation, the judging of a trace and of a run file for a C program to time: bench/ links these
-// functions.
+// The hash, the MAC, attestation, the judging of a trace and of a run file for a C program to time. `speed_c` exports these
+// functions, and bench/ links those.
 #![tactic(auto)]
 
 ghost use Rattle.std.specs.Prelude.{◌≡◌, length};
@@ -23,8 +23,7 @@ fn store(bytes: &[u8], room: &mut [u8])
 }
 
 // Stores the bytes that `hash` answers.
-#[unsafe(no_mangle)]
-pub extern "C" fn speed_hash(message: &[u8], room: &mut [u8])
+pub fn speed_hash(message: &[u8], room: &mut [u8])
     ensures { P.StoresHash message.now room.old room.new }
 {
     let d = sha256::hash(message).bytes;
@@ -32,8 +31,7 @@ pub extern "C" fn speed_hash(message: &[u8], room: &mut [u8])
 }
 
 // Stores the bytes that `mac` answers.
-#[unsafe(no_mangle)]
-pub extern "C" fn speed_mac(key: &[u8], message: &[u8], room: &mut [u8])
+pub fn speed_mac(key: &[u8], message: &[u8], room: &mut [u8])
     ensures { P.StoresMac key.now message.now
         room.old room.new }
 {
@@ -68,21 +66,14 @@ fn traced(t: Traced) -> usize
 }
 
 // What `attest` leaves in memory, and the number of its refusal or 0.
-#[unsafe(no_mangle)]
-pub extern "C" fn speed_attest(memory: &mut [u8], layout: &[u8]) -> usize
+pub fn speed_attest(memory: &mut [u8], layout: &[u8]) -> usize
     ensures { P.NumbersAttest memory.old layout.now memory.new result }
 {
     answered(board::attest(memory, layout))
 }
 
 // What `trace` leaves in memory and room, and the number of its refusal or 0.
-#[unsafe(no_mangle)]
-pub extern "C" fn speed_trace(
-    memory: &mut [u8],
-    layout: &[u8],
-    trace: &[u8],
-    room: &mut [u8],
-) -> usize
+pub fn speed_trace(memory: &mut [u8], layout: &[u8], trace: &[u8], room: &mut [u8]) -> usize
     ensures { P.NumbersTrace memory.old layout.now trace.now
         room.old memory.new room.new result }
 {
@@ -90,8 +81,7 @@ pub extern "C" fn speed_trace(
 }
 
 // What `judge` leaves in memory and room, and the number of its refusal or 0.
-#[unsafe(no_mangle)]
-pub extern "C" fn speed_judge(file: &[u8], memory: &mut [u8], room: &mut [u8]) -> usize
+pub fn speed_judge(file: &[u8], memory: &mut [u8], room: &mut [u8]) -> usize
     ensures { P.NumbersJudge file.now memory.old room.old
         memory.new room.new result }
 {

@@ -8,7 +8,7 @@ use std::io;
 use std::io::Read;
 
 // Whether a call stands at the room's start, there is none more, or it is cut.
-#[derive(Drop)]
+#[derive(Clone, Copy)]
 pub enum Next {
     Call,
     End,

@@ -25,7 +25,7 @@ pub struct Layout {
     pub ar: Region,
 }
 
-#[derive(Drop)]
+#[derive(Clone, Copy)]
 pub enum Checked {
     Good(Layout),
     Refused(Refusal),

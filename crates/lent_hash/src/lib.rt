@@ -8,7 +8,7 @@ use refusal::Answer;
 use sha256::{Bytes32, Sha, Taken};
 
 // A digest, and the state that it is of.
-#[derive(Drop)]
+#[derive(Clone, Copy)]
 pub struct Finished {
     pub digest: Bytes32,
     pub state: Sha,

@@ -15,26 +15,26 @@ use refusal::Refusal;
 use rules::Monitor;
 use traces::{ANSWER, STEP};
 
-#[derive(Drop)]
+#[derive(Clone, Copy)]
 pub struct Totals {
     pub steps: usize,
     pub resets: usize,
 }
 
 // What one step leaves beside memory and room.
-#[derive(Drop)]
+#[derive(Clone, Copy)]
 struct Outcome {
     answer: StepAnswer,
     monitor: Monitor,
 }
 
-#[derive(Drop)]
+#[derive(Clone, Copy)]
 pub enum Stepped {
     Judged(Monitor),
     Refused(Refusal),
 }
 
-#[derive(Drop)]
+#[derive(Clone, Copy)]
 pub enum Traced {
     Judged(Totals),
     Refused(Refusal),

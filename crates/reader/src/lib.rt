@@ -7,14 +7,14 @@ ghost use Rattle.reader.specs.Promises as P;
 use refusal::Refusal;
 use steps::Step;
 
-#[derive(Drop)]
+#[derive(Clone, Copy)]
 pub struct StepReader<'a> {
     pub trace: &'a [u8],
     pub place: usize,
 }
 
 // What the reader answers: a step, the end, or refusal 7 or 9.
-#[derive(Drop)]
+#[derive(Clone, Copy)]
 pub enum Read {
     Step(Step),
     End,
@@ -22,7 +22,7 @@ pub enum Read {
 }
 
 // What is read at a place, and the place after it.
-#[derive(Drop)]
+#[derive(Clone, Copy)]
 pub struct Advance {
     pub read: Read,
     pub place: usize,

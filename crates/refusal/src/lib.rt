@@ -4,14 +4,14 @@
 ghost use Rattle.refusal.specs.Promises as P;
 
 // What was refused, and where: the place is 0 unless the page names one.
-#[derive(Drop)]
+#[derive(Clone, Copy)]
 pub struct Refusal {
     pub number: u8,
     pub place: usize,
 }
 
 // The answer of a call whose values, if it has any, stand beside this in an array or a state.
-#[derive(Drop)]
+#[derive(Clone, Copy)]
 pub enum Answer {
     Done,
     Refused(Refusal),

@@ -18,7 +18,7 @@ pub struct Monitor {
 }
 
 // For each rule, whether it is tried at a step and applies to it.
-#[derive(Drop)]
+#[derive(Clone, Copy)]
 struct Broken {
     r1: bool,
     r2: bool,

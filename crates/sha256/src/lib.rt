@@ -27,14 +27,14 @@ pub struct Sha {
 }
 
 // A state handed back: with the bytes taken in, or refused and as it was.
-#[derive(Drop)]
+#[derive(Clone, Copy)]
 pub struct Taken {
     pub answer: Answer,
     pub state: Sha,
 }
 
 // 32 bytes, or refused and zeros.
-#[derive(Drop)]
+#[derive(Clone, Copy)]
 pub struct Bytes32 {
     pub answer: Answer,
     pub bytes: [u8; DIGEST],

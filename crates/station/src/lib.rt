@@ -7,7 +7,7 @@ use refusal::Refusal;
 use routine::STRING;
 use sha256::Bytes32;
 
-#[derive(Drop)]
+#[derive(Clone, Copy)]
 pub enum Verdict {
     Yes,
     No,

@@ -5,15 +5,9 @@ use Rattle.layout.specs.Regions.{within}
 use Rattle.layout.proofs.Vetted.{reversed, missized, begins_at_zero, shared, passed}
 use Rattle.layout.proofs.check_regions.Goals as goal
 
-pub refused_at-requires : goal.refused_at-requires
-refused_at-requires c = tt
-
 pub returns-then-reversed-lt-REGIONS : goal.returns-then-reversed-lt-REGIONS
 returns-then-reversed-lt-REGIONS c =
     reversed c.args.b.now c.requires _ c.first_reversed-reversed.ensures _ c.refused_at.ensures c.if-reversed-lt-REGIONS.true
-
-pub refused_at-requires-then-missized-lt-REGIONS : goal.refused_at-requires-then-missized-lt-REGIONS
-refused_at-requires-then-missized-lt-REGIONS c = tt
 
 pub returns-then-missized-lt-REGIONS : goal.returns-then-missized-lt-REGIONS
 returns-then-missized-lt-REGIONS c =
@@ -21,12 +15,6 @@ returns-then-missized-lt-REGIONS c =
     _ c.first_reversed-reversed.ensures c.if-reversed-lt-REGIONS.false
     _ c.first_wrong_size-missized.ensures
     _ c.refused_at-then-missized-lt-REGIONS.ensures c.if-missized-lt-REGIONS.true
-
-pub holds-requires : goal.holds-requires
-holds-requires c = tt
-
-pub refused_at-requires-then-holds : goal.refused_at-requires-then-holds
-refused_at-requires-then-holds c = tt
 
 pub returns-then-holds : goal.returns-then-holds
 returns-then-holds c =
@@ -36,9 +24,6 @@ returns-then-holds c =
     _ c.first_wrong_size-missized.ensures c.if-missized-lt-REGIONS.false
     _ zero
     _ c.refused_at-then-holds.ensures c.if-holds.true
-
-pub refused_at-requires-then-first_collision : goal.refused_at-requires-then-first_collision
-refused_at-requires-then-first_collision c = tt
 
 pub returns-then-first_collision : goal.returns-then-first_collision
 returns-then-first_collision c =

@@ -7,22 +7,10 @@ use Rattle.layout.proofs.first_collision.Goals as goal
 pub loop-n-init : goal.loop-n-init
 loop-n-init c = passed_zero _ _
 
-pub overflow_mul-t-5 : goal.overflow_mul-t-5
-overflow_mul-t-5 c = omega arith
-
-pub collide-requires : goal.collide-requires
-collide-requires c = omega arith
-
 pub returns-then-i-j : goal.returns-then-i-j
 returns-then-i-j c =
     let h = c.loop-n in
     passed_found h.invariant (omega arith) (simp (sym c.collide.ensures) c.if-i-j.true)
-
-pub overflow_add-n : goal.overflow_add-n
-overflow_add-n c = omega arith
-
-pub loop-n-smaller : goal.loop-n-smaller
-loop-n-smaller c = omega arith
 
 pub loop-n-preserved : goal.loop-n-preserved
 loop-n-preserved c =

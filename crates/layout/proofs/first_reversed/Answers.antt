@@ -9,21 +9,12 @@ use Rattle.layout.proofs.first_reversed.Goals as goal
 pub loop-k-init : goal.loop-k-init
 loop-k-init c = passed_zero _ _
 
-pub region_at-r-requires : goal.region_at-r-requires
-region_at-r-requires c = omega arith
-
 pub returns-then-r : goal.returns-then-r
 returns-then-r c =
     let h = c.loop-k in
     let r = c.region_at-r in
     passed_found h.invariant (omega arith)
     (ap reversed (sym r.ensures) ∙ lt-ltb r.result.hi r.result.lo (omega arith))
-
-pub overflow_add-k : goal.overflow_add-k
-overflow_add-k c = omega arith
-
-pub loop-k-smaller : goal.loop-k-smaller
-loop-k-smaller c = omega arith
 
 pub loop-k-preserved : goal.loop-k-preserved
 loop-k-preserved c =

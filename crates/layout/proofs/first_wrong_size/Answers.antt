@@ -8,24 +8,12 @@ use Rattle.layout.proofs.first_wrong_size.Goals as goal
 pub loop-k-init : goal.loop-k-init
 loop-k-init c = passed_zero _ _
 
-pub region_at-requires : goal.region_at-requires
-region_at-requires c = omega arith
-
-pub wrong_size-requires : goal.wrong_size-requires
-wrong_size-requires c = omega arith
-
 pub returns-then-wrong_size : goal.returns-then-wrong_size
 returns-then-wrong_size c =
     let h = c.loop-k in
     let e = ap (wrong_size h.k) (sym c.region_at.ensures) ∙ sym c.wrong_size.ensures in
     passed_found h.invariant (omega arith)
     (e ∙ c.if-wrong_size.true)
-
-pub overflow_add-k : goal.overflow_add-k
-overflow_add-k c = omega arith
-
-pub loop-k-smaller : goal.loop-k-smaller
-loop-k-smaller c = omega arith
 
 pub loop-k-preserved : goal.loop-k-preserved
 loop-k-preserved c =

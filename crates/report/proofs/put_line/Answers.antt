@@ -6,27 +6,10 @@ use Rattle.report.proofs.Decimal.{decimal_most}
 use Rattle.report.proofs.put_line.Goals as goal
 
 pub put_shown-dma_end-requires : goal.put_shown-dma_end-requires
-put_shown-dma_end-requires c =
-    let u = c.put_byte-dma_at.ensures.next in
-    let t = c.put_shown-cpu_end.ensures.1 in
-    let s = c.put_byte-cpu_at.ensures.next in
-    let r = c.put_decimal-cause_end.ensures.1 in
-    let q = c.put_byte-cause_at.ensures.next in
-    let p = c.put_decimal-number_end.ensures.1 in
-    let h = c.requires in
-    omega (arith, h, p, q, r, s, t, u)
+put_shown-dma_end-requires c = omega arith
 
 pub put_byte-requires : goal.put_byte-requires
-put_byte-requires c =
-    let v = c.put_shown-dma_end.ensures.1 in
-    let u = c.put_byte-dma_at.ensures.next in
-    let t = c.put_shown-cpu_end.ensures.1 in
-    let s = c.put_byte-cpu_at.ensures.next in
-    let r = c.put_decimal-cause_end.ensures.1 in
-    let q = c.put_byte-cause_at.ensures.next in
-    let p = c.put_decimal-number_end.ensures.1 in
-    let h = c.requires in
-    omega (arith, h, p, q, r, s, t, u, v)
+put_byte-requires c = omega arith
 
 pub returns : goal.returns
 unfolding line

@@ -7,16 +7,12 @@ use native.Mathlib.Omega.{arith}
 use borrow.Author.Tests.{le-ltb}
 use lib.ListN.{length}
 use lib.Seq.{sets}
-use Rattle.refusal.specs.Answers.{row, after_call}
+use Rattle.refusal.specs.Answers.{Answer, row, done, refusal_row, after_call}
 use Rattle.refusal.proofs.Settled.{row_settled}
 use Rattle.refusal.specs.declared.Refusal.{Refusal}
-use Rattle.refusal.specs.declared.Answer.{Answer}
-use Rattle.refusal.specs.declared.Answer.TheVariants.{Done, Refused}
-use Rattle.sha256.specs.declared.Bytes32.{Bytes32}
 use Rattle.sha256.proofs.Laws.{gives_bytes}
 use Rattle.hmac.specs.Promises.{most, long}
 use Rattle.layout.specs.declared.Layout.{Layout}
-use Rattle.layout.specs.declared.Checked.TheVariants as checked
 use Rattle.layout.specs.Regions.{size}
 use Rattle.layout.specs.Layouts.{AR, layout_of, layout_check}
 use Rattle.layout.specs.Calls.{memory_bytes}
@@ -30,6 +26,7 @@ use Rattle.board.specs.Memory.{bytes_at, key, counter, attested, challenge, rece
 use Rattle.board.specs.Inner.{Sized}
 use Rattle.board.specs.Attestation.{request_check_in, attest_check, due, accepted}
 use Rattle.board.specs.Promises.{Attests}
+use Rattle.std.specs.Prelude.{Err, Ok, Result}
 
 short : (b : List ℕ) → length b ≤ most → long b ≡ false
 short b h = le-ltb most (length b) h
@@ -46,14 +43,14 @@ module _ (l : Layout) (memory k t : List ℕ) (a : ℕ) (s : Sized l) (lk : leng
       let e : row r ≡ row (request_check k c t n) = simp (h, and-false) at p.answered in
       cc
 
-  pub replied_to : (g : List ℕ) (d : Bytes32) → length g ≡ size l.ar → size l.ar ≤ memory_bytes
+  pub replied_to : (g : List ℕ) (d : Result (List ℕ) Refusal) → length g ≡ size l.ar → size l.ar ≤ memory_bytes
       → g ≡ attested l memory → RepliesTo k t g d
-      → d.bytes ≡ reply_to (key l memory) (received l memory) (attested l memory)
+      → d ≡ Ok (reply_to (key l memory) (received l memory) (attested l memory))
   replied_to g d lg hg eg p =
       let z = s.key in
       let h : (long k || long t || long g) ≡ false =
       simp (short k (omega arith), short t (omega arith), short g (omega arith)) in
-      let e : d.bytes ≡ reply_to k t g = gives_bytes p h in
+      let e : d ≡ Ok (reply_to k t g) = gives_bytes p h in
       cc
 
 -- the stores of step 3
@@ -75,24 +72,23 @@ module _ (l : Layout) (memory : List ℕ) where
   abbrev pub Answered : List ℕ → Answer → Type 0
   Answered memory' r = (row r ≡ row check) × (memory' ≡ after_call check (accepted l memory) memory)
 
-  pub genuine : (r : Answer) → row r ≡ row check → r ≡ Done
-      → token (key l memory) (challenge l memory) ≡ received l memory
-  genuine r e d = (request_passed _ _ _ _ (sym (row_settled r check e) ∙ d)).1
+  pub genuine : done ≡ row check → token (key l memory) (challenge l memory) ≡ received l memory
+  genuine e = (request_passed _ _ _ _ (sym (row_settled (Ok tt) check e))).1
 
-  pub answered_done : (r : Answer) (memory' : List ℕ) → row r ≡ row check → r ≡ Done → memory' ≡ accepted l memory
-      → Answered memory' Done
-  answered_done r memory' e d m =
-      let f : check ≡ Done = sym (row_settled r check e) ∙ d in
+  pub answered_done : {memory' : List ℕ} → done ≡ row check → memory' ≡ accepted l memory → Answered memory' (Ok tt)
+  answered_done e m =
+      let f : check ≡ Ok tt = sym (row_settled (Ok tt) check e) in
       (simp f, simp f m)
 
-  pub answered_refused : (r : Answer) (q : Refusal) → row r ≡ row check → r ≡ Refused q → Answered memory (Refused q)
-  answered_refused r q e d =
-      let f : check ≡ Refused q = sym (row_settled r check e) ∙ d in
-      (simp f, simp f)
+  pub answered_refused : {memory' : List ℕ} (q : Refusal) → refusal_row q ≡ row check → memory' ≡ memory
+      → Answered memory' (Err q)
+  answered_refused q e m =
+      let f : check ≡ Err q = sym (row_settled (Err q) check e) in
+      (simp f, simp f m)
 
 -- ---- the call, by what the check that comes first answered
 
-good_sized : (b : List ℕ) → layout_check b ≡ Done → Sized (layout_of b)
+good_sized : (b : List ℕ) → layout_check b ≡ Ok tt → Sized (layout_of b)
 unfolding layout_of
 good_sized b e =
     let g = done_good b e in
@@ -100,26 +96,29 @@ good_sized b e =
     record { key = g.key; mailbox = g.mailbox; counter = g.counter; region = omega arith }
 
 module _ (memory layout : List ℕ) where
-  pub admitted_sized : (l : Layout) → Admits memory layout Done (checked.Good l)
+  pub admitted_sized : (l : Layout) → Admits memory layout (Ok tt) (Ok l)
       → (length memory ≡ memory_bytes) × Sized l
   admitted_sized l p =
-      let g = admitted_good memory layout Done l p in
-      let q = call_passed memory layout Done g.0 in
+      let g = admitted_good memory layout (Ok tt) l p in
+      let q = call_passed memory layout (Ok tt) g.0 in
       (q.0, subst Sized (sym g.1) (good_sized layout q.1))
 
-  pub attest_answered : (l : Layout) (memory' : List ℕ) (r : Answer) → Admits memory layout Done (checked.Good l)
+  pub attest_answered : (l : Layout) (memory' : List ℕ) (r : Answer) → Admits memory layout (Ok tt) (Ok l)
       → Answered l memory memory' r → Attests memory layout memory' r
   unfolding attest_check
   attest_answered l memory' r p d =
-      let g = admitted_good memory layout Done l p in
-      let q = call_passed memory layout Done g.0 in
+      let g = admitted_good memory layout (Ok tt) l p in
+      let q = call_passed memory layout (Ok tt) g.0 in
       let f = rw g.1 at d in
       let c = call_rest memory layout (check (layout_of layout) memory) q.0 q.1 in
       record { answered = rw c f.0; memory_left = rw c f.1 }
 
-  pub attest_refused : (q : Refusal) → Admits memory layout Done (checked.Refused q)
-      → Attests memory layout memory (Refused q)
+  pub attest_refused : (q : Refusal) → Admits memory layout (Ok tt) (Err q)
+      → Attests memory layout memory (Err q)
   unfolding attest_check
   attest_refused q p =
-      let c = call_refused memory layout (check (layout_of layout) memory) q (admitted_refused memory layout Done q p) in
+      let c = call_refused memory layout (check (layout_of layout) memory) q (admitted_refused memory layout (Ok tt) q p) in
       record { answered = rw c; memory_left = rw c }
+
+pub given_reply : {d e : List ℕ} (r : Result (List ℕ) Refusal) → r ≡ Ok e → r ≡ Ok d → d ≡ e
+given_reply {d} {e} r p q = let z : ◌≡◌ {A = Result (List ℕ) Refusal} (Ok d) (Ok e) = sym q ∙ p in cc

@@ -8,9 +8,9 @@ use native.Mathlib.Omega.{arith}
 use lib.ListN.{length, get_or, length-take, length-drop}
 use lib.Seq.{sets, length-sets}
 use Rattle.notions.specs.Bytes.{Bytes}
+use Rattle.refusal.specs.Numbers.{number}
 use Rattle.refusal.proofs.Settled.{row_settled}
 use Rattle.refusal.specs.declared.Refusal.{Refusal}
-use Rattle.refusal.specs.declared.Answer.TheVariants.{Done, Refused}
 use Rattle.notions.proofs.Bytes.{bytes_sets}
 use Rattle.notions.proofs.Tests.{neither}
 use Rattle.refusal.proofs.Order.{Refuses}
@@ -29,6 +29,7 @@ use Rattle.board.specs.Memory.{bytes_at, bytes_of, key, counter, attested, chall
 use Rattle.board.specs.Attestation.{attest_check, Listed, due, accepted, stores_to}
 use Rattle.board.specs.Promises.{Attests}
 use Rattle.board.proofs.Stores.{bytes_agree, stored_there, stored_off, stored_apart, bytes_read}
+use Rattle.std.specs.Prelude.{Err, Ok}
 
 -- ---- what is read
 
@@ -115,19 +116,19 @@ bytes_accepted l memory p =
 -- the memory's length, the layout, and steps 1 and 2
 pub record Allowed (memory layout : List ℕ) : Type 0 where
   pub long : length memory ≡ memory_bytes
-  pub laid : layout_check layout ≡ Done
+  pub laid : layout_check layout ≡ Ok tt
   pub fresh : greater (challenge (layout_of layout) memory) (counter (layout_of layout) memory) ≡ true
   pub genuine : token (key (layout_of layout) memory) (challenge (layout_of layout) memory) ≡ received
       (layout_of layout) memory
 
-pub done_allowed : (memory layout : List ℕ) → attest_check memory layout ≡ Done → Allowed memory layout
+pub done_allowed : (memory layout : List ℕ) → attest_check memory layout ≡ Ok tt → Allowed memory layout
 unfolding attest_check
 done_allowed memory layout e =
     let p = call_passed memory layout _ e in
     let q = request_passed _ _ _ _ p.2 in
     record { long = p.0; laid = p.1; fresh = q.0; genuine = q.1 }
 
-pub allowed_done : (memory layout : List ℕ) → Allowed memory layout → attest_check memory layout ≡ Done
+pub allowed_done : (memory layout : List ℕ) → Allowed memory layout → attest_check memory layout ≡ Ok tt
 unfolding attest_check
 allowed_done memory layout a = call_rest memory layout _ a.long a.laid
     ∙ request_passes _ _ _ _ a.fresh a.genuine
@@ -140,15 +141,15 @@ attest_numbers memory layout =
 
 -- ---- a call by its answer
 
-pub attested_done : (memory layout memory' : List ℕ) → Attests memory layout memory' Done
+pub attested_done : (memory layout memory' : List ℕ) → Attests memory layout memory' (Ok tt)
     → Allowed memory layout × (memory' ≡ accepted (layout_of layout) memory)
 attested_done memory layout memory' p =
-    let e : attest_check memory layout ≡ Done = sym (row_settled Done (attest_check memory layout) p.answered) in
+    let e : attest_check memory layout ≡ Ok tt = sym (row_settled (Ok tt) (attest_check memory layout) p.answered) in
     (done_allowed memory layout e, p.memory_left ∙ simp e)
 
-pub attested_refused : (memory layout memory' : List ℕ) (q : Refusal) → Attests memory layout memory' (Refused q)
-    → Listed q.number × (memory' ≡ memory)
+pub attested_refused : (memory layout memory' : List ℕ) (q : Refusal) → Attests memory layout memory' (Err q)
+    → Listed (number q.reason) × (memory' ≡ memory)
 attested_refused memory layout memory' q p =
-    let e : attest_check memory layout ≡ Refused q =
-    sym (row_settled (Refused q) (attest_check memory layout) p.answered) in
+    let e : attest_check memory layout ≡ Err q =
+    sym (row_settled (Err q) (attest_check memory layout) p.answered) in
     (attest_numbers memory layout q e, p.memory_left ∙ simp e)

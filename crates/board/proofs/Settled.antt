@@ -2,8 +2,8 @@
 use Rattle.std.specs.Prelude.{◌≡◌, List, ℕ}
 use Rattle.std.proofs.Common.{sym, ◌∙◌}
 use Rattle.refusal.proofs.Settled.{row_settled}
-use Rattle.refusal.specs.declared.Answer.{Answer}
 use Rattle.board.specs.Promises.{Attests}
+use Rattle.refusal.specs.Answers.{Answer}
 
 pub attests_settled : (memory layout memory₁ memory₂ : List ℕ) (r q : Answer)
     → Attests memory layout memory₁ r → Attests memory layout memory₂ q → (r ≡ q) × (memory₁ ≡ memory₂)

@@ -1,14 +1,15 @@
 -- Attestation on a board's memory. Assumes nothing.
 use Rattle.std.specs.Prelude.{◌⊎◌, Bool, ◌||◌, List, ℕ, ◌+◌, ◌≤◌}
 use Rattle.std.proofs.lemmas.List.Edits.{sets}
-use Rattle.refusal.specs.Numbers.{memory_size, regions_share, challenge_not_greater, token_differs}
-use Rattle.refusal.specs.declared.Answer.{Answer}
+use Rattle.refusal.specs.declared.Reason.TheVariants.{MemorySize, RegionsShare, ChallengeNotGreater, TokenDiffers}
 use Rattle.layout.specs.declared.Layout.{Layout}
 use Rattle.layout.specs.Regions.{within}
 use Rattle.layout.specs.Layouts.{layout_of}
 use Rattle.layout.specs.Calls.{call_check}
 use Rattle.routine.specs.Routine.{reply, request_check}
 use Rattle.board.specs.Memory.{key, counter, attested, challenge, received, reply_at}
+use Rattle.refusal.specs.Numbers.{number}
+use Rattle.refusal.specs.Answers.{Answer}
 
 -- steps 1 and 2 on what stands in the memory
 abbrev pub request_check_in : Layout → List ℕ → Answer
@@ -20,7 +21,7 @@ attest_check memory layout = call_check memory layout (request_check_in (layout_
 
 -- their numbers
 abbrev pub Listed : ℕ → Type 0
-Listed n = ((memory_size ≤ n) × (n ≤ regions_share)) ⊎ ((challenge_not_greater ≤ n) × (n ≤ token_differs))
+Listed n = ((number MemorySize ≤ n) × (n ≤ number RegionsShare)) ⊎ ((number ChallengeNotGreater ≤ n) × (n ≤ number TokenDiffers))
 
 -- step 3: the reply that the routine works out
 unfoldable pub due : Layout → List ℕ → List ℕ

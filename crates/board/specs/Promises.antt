@@ -1,7 +1,6 @@
 -- What `attest` promises, for all inputs. Assumes nothing.
 use Rattle.std.specs.Prelude.{◌≡◌, List, ℕ}
-use Rattle.refusal.specs.Answers.{row, after_call}
-use Rattle.refusal.specs.declared.Answer.{Answer}
+use Rattle.refusal.specs.Answers.{Answer, row, after_call}
 use Rattle.layout.specs.Layouts.{layout_of}
 use Rattle.board.specs.Attestation.{attest_check, accepted}
 

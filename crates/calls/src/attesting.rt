@@ -4,14 +4,10 @@ use frames::argument;
 use std::io;
 use std::io::Write;
 
-fn attest_on(out: &mut impl Write, call: &[u8], memory: &mut [u8]) -> io::Result<()> {
+pub fn attest(out: &mut impl Write, call: &[u8], memory: &mut [u8]) -> io::Result<()> {
+    let memory = lent_argument::lend(call, 0, memory);
     line::attested(out, board::attest(memory, argument(call, 1)))?;
     line::memory(out, memory)
-}
-
-pub fn attest(out: &mut impl Write, call: &[u8], memory: &mut [u8]) -> io::Result<()> {
-    let m = lent_argument::copy(call, 0, memory);
-    attest_on(out, call, &mut memory[0..m])
 }
 
 pub fn token(out: &mut impl Write, call: &[u8]) -> io::Result<()> {

@@ -30,17 +30,15 @@ pub fn finish(out: &mut impl Write, call: &[u8]) -> io::Result<()> {
 
 pub fn lent_take_in(out: &mut impl Write, call: &[u8]) -> io::Result<()> {
     let s = state(call);
-    let words = s.words;
-    let block = s.block;
     line::taken(
         out,
-        lent_hash::take_in_with_fields(words, block, s.total, argument(call, 1)),
+        lent_hash::take_in_with_fields(s.words, s.block, s.total, argument(call, 1)),
     )
 }
 
 pub fn lent_finish(out: &mut impl Write, call: &[u8]) -> io::Result<()> {
     let s = state(call);
-    let words = s.words;
-    let block = s.block;
-    line::finished(out, lent_hash::finish_with_fields(words, block, s.total))
+    let f = lent_hash::finish_with_fields(s.words, s.block, s.total);
+    line::hash(out, f.digest)?;
+    line::state(out, f.state)
 }

@@ -1,26 +1,14 @@
 // The lines that tell what a call answered, and what it left.
 ghost use Rattle.std.specs.Prelude.{◌≤◌, length};
 
-use layout::Checked;
-use lent_hash::Finished;
-use monitor::{Stepped, Totals, Traced};
-use reader::{Advance, Read};
-use refusal::{Answer, Refusal};
+use monitor::Totals;
+use reader::Advance;
+use refusal::Refusal;
 use rules::Monitor;
-use sha256::{Bytes32, Sha, Taken};
-use station::Verdict;
+use sha256::{DIGEST, Sha, Taken};
 use std::io;
 use std::io::Write;
 use steps::Step;
-
-fn text(out: &mut impl Write, bytes: &[u8]) -> io::Result<()> {
-    out.write_all(bytes)
-}
-
-fn field(out: &mut impl Write, name: &[u8], n: u64) -> io::Result<()> {
-    text(out, name)?;
-    write!(out, "{n}")
-}
 
 fn hex(bytes: &[u8], digits: &mut [u8]) -> usize
     ensures { result ≤ length digits.new }
@@ -28,110 +16,84 @@ fn hex(bytes: &[u8], digits: &mut [u8]) -> usize
     hex_text::write(bytes, digits)
 }
 
-// Bytes in hexadecimal digits; a state is the longest that there is to print.
+// Bytes in hexadecimal digits; a state is the longest that there is to print. The digits have their length beside them, as
+// `hex_text::write` promises it: this project has no heap.
 fn given(out: &mut impl Write, name: &[u8], bytes: &[u8]) -> io::Result<()> {
     let mut digits = [0u8; 2 * state_codecs::STATE_BYTES];
     let n = hex(bytes, &mut digits);
-    text(out, name)?;
-    text(out, &digits[0..n])?;
-    text(out, b"\n")
+    out.write_all(name)?;
+    out.write_all(&digits[..n])?;
+    out.write_all(b"\n")
 }
 
 fn refused(out: &mut impl Write, r: Refusal) -> io::Result<()> {
-    field(out, b"refused ", r.number as u64)?;
-    field(out, b" ", r.place as u64)?;
-    text(out, b"\n")
+    writeln!(out, "{r}")
 }
 
-fn answer(out: &mut impl Write, a: Answer, done: &[u8]) -> io::Result<()> {
+// A word where the call is done.
+fn answer<T: Copy>(out: &mut impl Write, a: Result<T, Refusal>, done: &[u8]) -> io::Result<()> {
     match a {
-        Answer::Done => text(out, done),
-        Answer::Refused(r) => refused(out, r),
+        Ok(_) => out.write_all(done),
+        Err(r) => refused(out, r),
     }
 }
 
-fn digest(out: &mut impl Write, name: &[u8], d: Bytes32) -> io::Result<()> {
-    let a = d.answer;
-    let bytes = d.bytes;
-    match a {
-        Answer::Done => given(out, name, &bytes),
-        Answer::Refused(r) => refused(out, r),
+fn digest(out: &mut impl Write, name: &[u8], d: Result<[u8; DIGEST], Refusal>) -> io::Result<()> {
+    match d {
+        Ok(bytes) => given(out, name, &bytes),
+        Err(r) => refused(out, r),
     }
 }
 
 // ---- first lines
 
-pub fn checked(out: &mut impl Write, c: Checked) -> io::Result<()> {
-    match c {
-        Checked::Good(_) => text(out, b"good\n"),
-        Checked::Refused(r) => refused(out, r),
-    }
+pub fn checked(out: &mut impl Write, c: Result<layout::Layout, Refusal>) -> io::Result<()> {
+    answer(out, c, b"good\n")
 }
 
-fn bit(on: bool) -> u64 {
-    if on { 1 } else { 0 }
-}
-
-fn monitor(out: &mut impl Write, m: Monitor) -> io::Result<()> {
-    field(out, b"held ", bit(m.held))?;
-    field(out, b" last ", m.lastpc as u64)?;
-    text(out, b"\n")
-}
-
-pub fn stepped(out: &mut impl Write, s: Stepped) -> io::Result<()> {
+pub fn stepped(out: &mut impl Write, s: Result<Monitor, Refusal>) -> io::Result<()> {
     match s {
-        Stepped::Judged(m) => monitor(out, m),
-        Stepped::Refused(r) => refused(out, r),
+        Ok(m) => writeln!(out, "held {} last {}", u8::from(m.held), m.lastpc),
+        Err(r) => refused(out, r),
     }
 }
 
-fn totals(out: &mut impl Write, t: Totals) -> io::Result<()> {
-    field(out, b"steps ", t.steps as u64)?;
-    field(out, b" resets ", t.resets as u64)?;
-    text(out, b"\n")
-}
-
-pub fn traced(out: &mut impl Write, t: Traced) -> io::Result<()> {
+pub fn traced(out: &mut impl Write, t: Result<Totals, Refusal>) -> io::Result<()> {
     match t {
-        Traced::Judged(n) => totals(out, n),
-        Traced::Refused(r) => refused(out, r),
+        Ok(n) => writeln!(out, "steps {} resets {}", n.steps, n.resets),
+        Err(r) => refused(out, r),
     }
 }
 
-pub fn attested(out: &mut impl Write, a: Answer) -> io::Result<()> {
+pub fn attested(out: &mut impl Write, a: Result<(), Refusal>) -> io::Result<()> {
     answer(out, a, b"accepted\n")
 }
 
-pub fn token(out: &mut impl Write, d: Bytes32) -> io::Result<()> {
+pub fn token(out: &mut impl Write, d: Result<[u8; DIGEST], Refusal>) -> io::Result<()> {
     digest(out, b"token ", d)
 }
 
-pub fn verdict(out: &mut impl Write, v: Verdict) -> io::Result<()> {
+pub fn verdict(out: &mut impl Write, v: Result<bool, Refusal>) -> io::Result<()> {
     match v {
-        Verdict::Yes => text(out, b"yes\n"),
-        Verdict::No => text(out, b"no\n"),
-        Verdict::Refused(r) => refused(out, r),
+        Ok(true) => out.write_all(b"yes\n"),
+        Ok(false) => out.write_all(b"no\n"),
+        Err(r) => refused(out, r),
     }
 }
 
-pub fn hash(out: &mut impl Write, d: Bytes32) -> io::Result<()> {
+pub fn hash(out: &mut impl Write, d: Result<[u8; DIGEST], Refusal>) -> io::Result<()> {
     digest(out, b"hash ", d)
 }
 
-pub fn mac(out: &mut impl Write, d: Bytes32) -> io::Result<()> {
+pub fn mac(out: &mut impl Write, d: Result<[u8; DIGEST], Refusal>) -> io::Result<()> {
     digest(out, b"mac ", d)
 }
 
-fn step(out: &mut impl Write, s: Step) -> io::Result<()> {
-    let bytes = step_codecs::step_bytes(s);
-    given(out, b"step ", &bytes)
-}
-
-fn read(out: &mut impl Write, r: Read) -> io::Result<()> {
+fn read(out: &mut impl Write, r: Result<Option<Step>, Refusal>) -> io::Result<()> {
     match r {
-        Read::Step(s) => step(out, s),
-        Read::End => text(out, b"end\n"),
-        Read::Refused(f) => refused(out, f),
+        Ok(Some(s)) => given(out, b"step ", &step_codecs::step_bytes(s)),
+        Ok(None) => out.write_all(b"end\n"),
+        Err(r) => refused(out, r),
     }
 }
 
@@ -139,8 +101,7 @@ fn read(out: &mut impl Write, r: Read) -> io::Result<()> {
 
 // Memory or room, as they stand after the call.
 fn left(out: &mut impl Write, name: &[u8], bytes: &[u8]) -> io::Result<()> {
-    let d = sha256_digest::digest_of(bytes);
-    given(out, name, &d)
+    given(out, name, &sha256_digest::digest_of(bytes))
 }
 
 pub fn memory(out: &mut impl Write, bytes: &[u8]) -> io::Result<()> {
@@ -152,31 +113,19 @@ pub fn room(out: &mut impl Write, bytes: &[u8]) -> io::Result<()> {
 }
 
 pub fn state(out: &mut impl Write, s: Sha) -> io::Result<()> {
-    let bytes = state_codecs::state_bytes(s);
-    given(out, b"state ", &bytes)
+    given(out, b"state ", &state_codecs::state_bytes(s))
 }
 
 pub fn taken(out: &mut impl Write, t: Taken) -> io::Result<()> {
-    let a = t.answer;
-    let s = t.state;
-    answer(out, a, b"taken\n")?;
-    state(out, s)
-}
-
-pub fn finished(out: &mut impl Write, f: Finished) -> io::Result<()> {
-    let d = f.digest;
-    let s = f.state;
-    hash(out, d)?;
-    state(out, s)
+    answer(out, t.answer, b"taken\n")?;
+    state(out, t.state)
 }
 
 pub fn advanced(out: &mut impl Write, a: Advance) -> io::Result<()> {
-    let what = a.read;
-    read(out, what)?;
-    field(out, b"place ", a.place as u64)?;
-    text(out, b"\n")
+    read(out, a.read)?;
+    writeln!(out, "place {}", a.place)
 }
 
 pub fn cut(out: &mut impl Write) -> io::Result<()> {
-    text(out, b"cut\n")
+    out.write_all(b"cut\n")
 }

@@ -8,41 +8,18 @@ pub fn check(out: &mut impl Write, call: &[u8]) -> io::Result<()> {
     line::checked(out, layout::check(argument(call, 0)))
 }
 
-fn step_on(
-    out: &mut impl Write,
-    call: &[u8],
-    memory: &mut [u8],
-    room: &mut [u8],
-) -> io::Result<()> {
-    let from = step_codecs::monitor_of(argument(call, 3));
-    line::stepped(
-        out,
-        monitor::step(memory, argument(call, 1), argument(call, 2), from, room),
-    )?;
-    line::memory(out, memory)?;
-    line::room(out, room)
-}
-
 pub fn step(
     out: &mut impl Write,
     call: &[u8],
     memory: &mut [u8],
     room: &mut [u8],
 ) -> io::Result<()> {
-    let m = lent_argument::copy(call, 0, memory);
-    let r = lent_argument::copy(call, 4, room);
-    step_on(out, call, &mut memory[0..m], &mut room[0..r])
-}
-
-fn trace_on(
-    out: &mut impl Write,
-    call: &[u8],
-    memory: &mut [u8],
-    room: &mut [u8],
-) -> io::Result<()> {
-    line::traced(
+    let memory = lent_argument::lend(call, 0, memory);
+    let room = lent_argument::lend(call, 4, room);
+    let from = step_codecs::monitor_of(argument(call, 3));
+    line::stepped(
         out,
-        monitor::trace(memory, argument(call, 1), argument(call, 2), room),
+        monitor::step(memory, argument(call, 1), argument(call, 2), from, room),
     )?;
     line::memory(out, memory)?;
     line::room(out, room)
@@ -54,7 +31,12 @@ pub fn trace(
     memory: &mut [u8],
     room: &mut [u8],
 ) -> io::Result<()> {
-    let m = lent_argument::copy(call, 0, memory);
-    let r = lent_argument::copy(call, 3, room);
-    trace_on(out, call, &mut memory[0..m], &mut room[0..r])
+    let memory = lent_argument::lend(call, 0, memory);
+    let room = lent_argument::lend(call, 3, room);
+    line::traced(
+        out,
+        monitor::trace(memory, argument(call, 1), argument(call, 2), room),
+    )?;
+    line::memory(out, memory)?;
+    line::room(out, room)
 }

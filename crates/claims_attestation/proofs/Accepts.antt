@@ -7,7 +7,6 @@ use Prim.Native.Nat.{ℕ, ◌+◌, ◌≤◌, ◌<◌}
 use native.Mathlib.Omega.{arith}
 use lib.ListN.{get_or}
 use Rattle.notions.specs.Bytes.{Bytes}
-use Rattle.refusal.specs.declared.Answer.TheVariants.{Done}
 use Rattle.notions.proofs.Tests.{untrue}
 use Rattle.layout.specs.declared.Region.{Region}
 use Rattle.layout.specs.declared.Layout.{Layout}
@@ -24,6 +23,7 @@ use Rattle.board.proofs.Laws as board
 use Rattle.board.proofs.Laws.{Allowed, attested_done, due_is, region_agrees}
 use Rattle.board.proofs.Stores.{bytes_agree}
 use Rattle.claims_attestation.specs.Demand2.{Served}
+use Rattle.std.specs.Prelude.{Ok}
 
 pub record Accepts (memory layout memory' : List ℕ) : Type 0 where
   pub allowed : Allowed memory layout
@@ -32,7 +32,7 @@ pub record Accepts (memory layout memory' : List ℕ) : Type 0 where
   pub left : memory' ≡ accepted (layout_of layout) memory
   pub served : Served (layout_of layout) memory memory'
 
-pub accepts : (memory layout memory' : List ℕ) → Bytes layout → Attests memory layout memory' Done
+pub accepts : (memory layout memory' : List ℕ) → Bytes layout → Attests memory layout memory' (Ok tt)
     → Accepts memory layout memory'
 accepts memory layout memory' b p =
     let l = layout_of layout in
@@ -54,7 +54,7 @@ accepts memory layout memory' b p =
 
 -- ---- what it leaves as it was
 
-module _ (memory layout memory' : List ℕ) (b : Bytes layout) (p : Attests memory layout memory' Done) where
+module _ (memory layout memory' : List ℕ) (b : Bytes layout) (p : Attests memory layout memory' (Ok tt)) where
   abbrev l : Layout
   l = layout_of layout
 

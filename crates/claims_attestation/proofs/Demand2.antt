@@ -8,11 +8,11 @@ use native.Mathlib.Nat.{add-zero}
 use native.Mathlib.Omega.{arith}
 use lib.ListN.{length, get_or}
 use Rattle.notions.specs.Bytes.{Bytes}
-use Rattle.refusal.specs.Answers.{row, refused_at}
-use Rattle.refusal.specs.Numbers.{regions_share, challenge_not_greater, token_differs}
+use Rattle.refusal.specs.Numbers.{number}
+use Rattle.refusal.specs.declared.Reason.{Reason}
+use Rattle.refusal.specs.Answers.{Answer, row, refused_at}
+use Rattle.refusal.specs.declared.Reason.TheVariants.{RegionsShare, ChallengeNotGreater, TokenDiffers}
 use Rattle.refusal.proofs.Settled.{row_settled}
-use Rattle.refusal.specs.declared.Answer.{Answer}
-use Rattle.refusal.specs.declared.Answer.TheVariants.{Done, Refused}
 use Rattle.refusal.proofs.Order.{refuses_none}
 use Rattle.notions.proofs.Tests.{cases, clash, untrue}
 use Rattle.layout.specs.declared.Region.{Region}
@@ -35,7 +35,6 @@ use Rattle.board.specs.Promises.{Attests}
 use Rattle.board.proofs.Stores.{read_same, read_inside}
 use Rattle.board.proofs.Laws as board
 use Rattle.board.proofs.Laws.{done_allowed, allowed_done, attested_refused}
-use Rattle.station.specs.declared.Verdict.TheVariants.{Yes}
 use Rattle.station.specs.Lengths.{Lengths}
 use Rattle.station.specs.Promises.{check_unfit, ChecksReply}
 use Rattle.station.proofs.Laws.{token_fits, lengths_fit, fit_lengths, said_yes, says_yes, said_no, says_no}
@@ -45,6 +44,7 @@ use Rattle.claims_attestation.specs.Demand2.{SameRequest, Agrees, posted}
 use Rattle.conditions.proofs.Answers.{lent_either}
 use Rattle.claims_attestation.proofs.Accepts.{Accepts, accepts}
 use Rattle.claims_attestation.proofs.Posted.{request_is, request_key, request_attested, request_done}
+use Rattle.std.specs.Prelude.{Err, Ok}
 
 -- ---- the routine, on the board
 
@@ -69,12 +69,12 @@ answers_so memory layout memory' b p = (accepts memory layout memory' b p).serve
 pub refuses_so : claim.RefusesSo
 refuses_so = attested_refused
 
-one_number : (n m : ℕ) → refused_at n 0 ≡ refused_at m 0 → n ≡ m
+one_number : (n m : Reason) → refused_at n 0 ≡ refused_at m 0 → number n ≡ number m
 one_number n m e = ap (λ (a : Answer). get_or (row a) 0 0) e
 
 -- refused with 10, the challenge is not greater than the counter; with 11, it is and the token is another
 old_request : (k challenge received counter : List ℕ)
-    → request_check k challenge received counter ≡ refused_at challenge_not_greater 0
+    → request_check k challenge received counter ≡ refused_at ChallengeNotGreater 0
     → greater challenge counter ≡ false
 old_request k c t n e =
     untrue (greater c n)
@@ -82,18 +82,18 @@ old_request k c t n e =
     (λ h. let z : ◌≡◌ {A = ℕ} 0 1 = cc (e, request_passes k c t n g (same_equal (token k c) t h)) in omega arith)
     (λ h.
     let z =
-    one_number challenge_not_greater token_differs
+    one_number ChallengeNotGreater TokenDiffers
     (sym e ∙ request_forged k c t n g (λ q. clash (same (token k c) t) (equal_same (token k c) t q) h)) in
     omega arith))
 
 forged_request : (k challenge received counter : List ℕ)
-    → request_check k challenge received counter ≡ refused_at token_differs 0
+    → request_check k challenge received counter ≡ refused_at TokenDiffers 0
     → (greater challenge counter ≡ true) × (token k challenge ≢ received)
 forged_request k c t n e =
     let g : greater c n ≡ true =
     cases (greater c n) (λ g. g)
     (λ g.
-    let z = one_number token_differs challenge_not_greater (sym e ∙ request_old k c t n g) in
+    let z = one_number TokenDiffers ChallengeNotGreater (sym e ∙ request_old k c t n g) in
     absurd (omega arith)) in
     (g, λ q. let z : ◌≡◌ {A = ℕ} 0 1 = cc (e, request_passes k c t n g q) in omega arith)
 
@@ -106,30 +106,31 @@ request_refused memory layout memory' r q p long good e =
     row_settled r (attest_check memory layout) p.answered ∙ call_rest memory layout _ long (good_done layout good) ∙ e
 
 -- a call that is refused with a number over 6 is refused by steps 1 and 2
-refused_request : (memory layout memory' : List ℕ) (r : Answer) (n : ℕ) → Attests memory layout memory' r
-    → regions_share < n → r ≡ refused_at n 0
+refused_request : (memory layout memory' : List ℕ) (r : Answer) (n : Reason) → Attests memory layout memory' r
+    → number RegionsShare < number n → r ≡ refused_at n 0
     → (length memory ≡ memory_bytes) × Good layout × (request_check_in (layout_of layout) memory ≡ refused_at n 0)
 unfolding attest_check
 refused_request memory layout memory' r n p h e =
     let rest = request_check_in (layout_of layout) memory in
-    by_first (call_check memory layout Done) refl
+    by_first (call_check memory layout (Ok tt)) refl
     (sym (row_settled r (attest_check memory layout) p.answered) ∙ e)
   where
-    by_first : (a : Answer) → call_check memory layout Done ≡ a
+    by_first : (a : Answer) → call_check memory layout (Ok tt) ≡ a
         → call_check memory layout (request_check_in (layout_of layout) memory) ≡ refused_at n 0
         → (length memory ≡ memory_bytes) × Good layout × (request_check_in (layout_of layout) memory ≡ refused_at n 0)
-    by_first Done c d =
-        let q = call_passed memory layout Done c in
+    by_first (Ok _) c d =
+        let q = call_passed memory layout (Ok tt) c in
         (q.0, done_good layout q.1, sym (call_rest memory layout _ q.0 q.1) ∙ d)
-    by_first (Refused q) c d =
-        let z : n ≡ q.number = cc (call_refused memory layout (request_check_in (layout_of layout) memory) q c) in
-        let m = call_numbers (λ k. k ≤ regions_share) memory layout Done (λ k u v. v) (refuses_none _) q c in
+    by_first (Err q) c d =
+        let z : number n ≡ number q.reason = cc (call_refused memory layout (request_check_in (layout_of layout) memory) q c) in
+        let m = call_numbers (λ k. k ≤ number RegionsShare) memory layout (Ok tt) (λ k u v. v)
+        (refuses_none (λ k. k ≤ number RegionsShare)) q c in
         absurd (omega arith)
 
 pub old_refused : claim.OldRefused
 old_refused memory layout memory' r p = (
   λ e.
-      let q = refused_request memory layout memory' r challenge_not_greater p (omega arith) e in
+      let q = refused_request memory layout memory' r ChallengeNotGreater p (omega arith) e in
       (q.0, q.1, old_request _ _ _ _ q.2),
   λ q. request_refused memory layout memory' r _ p q.0 q.1 (request_old _ _ _ _ q.2),
 )
@@ -137,7 +138,7 @@ old_refused memory layout memory' r p = (
 pub forged_refused : claim.ForgedRefused
 forged_refused memory layout memory' r p = (
   λ e.
-      let q = refused_request memory layout memory' r token_differs p (omega arith) e in
+      let q = refused_request memory layout memory' r TokenDiffers p (omega arith) e in
       let f = forged_request _ _ _ _ q.2 in
       (q.0, q.1, f.0, λ g. f.1 (token_is _ _ ∙ sym g)),
   λ q.
@@ -172,7 +173,7 @@ same_check layout x y s =
     cc (s.long, s.key, s.counter, same_challenge l x y s, same_received l x y s)
 
 module _ (layout x y x' y' : List ℕ) (b : Bytes layout) (s : SameRequest (layout_of layout) x y)
-    (p : Attests x layout x' Done) (q : Attests y layout y' Done) where
+    (p : Attests x layout x' (Ok tt)) (q : Attests y layout y' (Ok tt)) where
   same_replied : replied (layout_of layout) x' ≡ replied (layout_of layout) y'
   same_replied =
       (answers_so x layout x' b p).reply
@@ -239,11 +240,11 @@ yes_twice k c d given x y p q = sym (said_yes p).1 ∙ (said_yes q).1
 -- ---- board and station agree
 
 is_yes : (k c given region : List ℕ) → Lengths k c given region → given ≡ reply k c region
-    → ChecksReply k c given region Yes
+    → ChecksReply k c given region (Ok true)
 is_yes k c given region f e =
     record { answered = simp (lengths_fit k c given region f, equal_same given (reply k c region) e) }
 
-module _ (memory layout memory' : List ℕ) (b : Bytes layout) (p : Attests memory layout memory' Done) where
+module _ (memory layout memory' : List ℕ) (b : Bytes layout) (p : Attests memory layout memory' (Ok tt)) where
   abbrev l : Layout
   l = layout_of layout
 
@@ -280,16 +281,19 @@ module _ (memory layout memory' : List ℕ) (b : Bytes layout) (p : Attests memo
       }
 
 pub board_and_station : claim.BoardAndStation
-board_and_station memory layout memory' made r b long good fresh makes came p =
+board_and_station memory layout memory' made r b long good fresh makes =
     let l = layout_of layout in
     let w = placed layout b (good_done layout good) in
     let k = board.length_key l w memory long in
-    let c = board.length_challenge l w memory long in
-    let made_is = gives_bytes makes (token_fits (key l memory) (challenge l memory) k c) in
-    let d : r ≡ Done =
-    (accepts_exactly memory layout memory' r p).1
-    (long, good, record { fresh = fresh; genuine = came ∙ made_is ∙ token_is _ _ }) in
-    (d, agrees memory layout memory' b (subst (Attests memory layout memory') d p))
+    let c = board.length_challenge l w memory long in (
+      token (key l memory) (challenge l memory),
+      gives_bytes makes (token_fits (key l memory) (challenge l memory) k c),
+      λ came p.
+          let d : r ≡ Ok tt =
+          (accepts_exactly memory layout memory' r p).1
+          (long, good, record { fresh = fresh; genuine = came ∙ token_is _ _ }) in
+          (d, agrees memory layout memory' b (subst (Attests memory layout memory') d p)),
+    )
 
 -- ---- a request in the mailbox
 
@@ -298,19 +302,23 @@ pub agrees_as : {k k' c c' r r' g : List ℕ} → k ≡ k' → c ≡ c' → r �
 agrees_as e f h a = rw (← e, ← f, ← h) a
 
 pub request_served : claim.RequestServed
-request_served memory layout c memory' made r b long good lc fresh makes p =
+request_served memory layout c memory' made r b long good lc fresh makes =
     let l = layout_of layout in
     let w = placed layout b (good_done layout good) in
-    let m = posted l c made.bytes memory in
-    let t = gives_bytes makes (token_fits (key l memory) c (board.length_key l w memory long) lc) in
-    let d =
-    row_settled r (attest_check m layout) p.answered
-    ∙ request_done layout b good memory c made.bytes long lc t fresh in
-    let q = subst (Attests m layout memory') d p in
-    let is = request_is layout b good memory c made.bytes long lc t in
-    let k = request_key layout b good memory c made.bytes long lc t in
-    let a = request_attested layout b good memory c made.bytes long lc t in (
-      d,
-      (answers_so m layout memory' b q).counted ∙ is,
-      agrees_as k is a (agrees m layout memory' b q),
+    let t : List ℕ = token (key l memory) c in
+    let m = posted l c t memory in (
+      t,
+      gives_bytes makes (token_fits (key l memory) c (board.length_key l w memory long) lc),
+      λ p.
+          let d =
+          row_settled r (attest_check m layout) p.answered
+          ∙ request_done layout b good memory c t long lc refl fresh in
+          let q = subst (Attests m layout memory') d p in
+          let is = request_is layout b good memory c t long lc refl in
+          let k = request_key layout b good memory c t long lc refl in
+          let a = request_attested layout b good memory c t long lc refl in (
+            d,
+            (answers_so m layout memory' b q).counted ∙ is,
+            agrees_as k is a (agrees m layout memory' b q),
+          ),
     )

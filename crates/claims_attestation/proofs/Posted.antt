@@ -9,7 +9,6 @@ use native.Mathlib.Omega.{arith}
 use lib.ListN.{length, get_or}
 use lib.Seq.{sets, length-sets}
 use Rattle.notions.specs.Bytes.{Bytes}
-use Rattle.refusal.specs.declared.Answer.TheVariants.{Done}
 use Rattle.layout.specs.declared.Layout.{Layout}
 use Rattle.layout.specs.Regions.{within}
 use Rattle.layout.specs.Layouts.{CR, KR, MR, CTR, AR, regions, region, may_share, layout_of}
@@ -26,6 +25,7 @@ use Rattle.board.specs.Attestation.{attest_check}
 use Rattle.board.proofs.Stores.{stored_there, stored_off, stored_apart}
 use Rattle.board.proofs.Laws.{region_agrees, allowed_done}
 use Rattle.claims_attestation.specs.Demand2.{posted}
+use Rattle.std.specs.Prelude.{Ok}
 
 module _ (layout : List ℕ) (b : Bytes layout) (good : Good layout) (memory c t : List ℕ)
     (long : length memory ≡ memory_bytes)
@@ -93,7 +93,7 @@ module _ (layout : List ℕ) (b : Bytes layout) (good : Good layout) (memory c t
   unfolding layout_of
   request_attested = request_region AR (omega arith) (λ e. omega arith) refl refl
 
-  pub request_done : greater c (counter l memory) ≡ true → attest_check request layout ≡ Done
+  pub request_done : greater c (counter l memory) ≡ true → attest_check request layout ≡ Ok tt
   request_done fresh =
       allowed_done request layout (record {
         long = request_long ∙ long;

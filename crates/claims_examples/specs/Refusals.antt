@@ -1,10 +1,13 @@
 -- For each refusal number a call that is refused with it: its inputs, its answer, and what it leaves. Assumes nothing.
-use Rattle.std.specs.Prelude.{List, [], ◌∷◌, ◌++◌, ℕ, replicate}
+use Rattle.std.specs.Prelude.{◌≡◌, List, [], ◌∷◌, ◌++◌, ℕ, replicate, Err}
+use Rattle.refusal.specs.Numbers.{number}
+use Rattle.refusal.specs.declared.Reason.{Reason}
+use Rattle.refusal.specs.declared.Reason.TheVariants.{MemorySize, LayoutSize, RegionReversed, RegionSize, ZeroInCode}
+use Rattle.refusal.specs.declared.Reason.TheVariants.{RegionsShare, TraceSize, RoomSize, StepNotZero}
+use Rattle.refusal.specs.declared.Reason.TheVariants.{ChallengeNotGreater, TokenDiffers, LengthOrTotal}
+use Rattle.refusal.specs.declared.Reason.TheVariants.{Contents, Segment, FileSize}
 use Rattle.refusal.specs.declared.Refusal.{Refusal}
-use Rattle.refusal.specs.declared.Answer.TheVariants as call
-use Rattle.layout.specs.declared.Checked.TheVariants as checked
 use Rattle.layout.specs.Promises.{Checks}
-use Rattle.monitor.specs.declared.Traced.TheVariants as traced
 use Rattle.monitor.specs.Promises.{Traces}
 use Rattle.board.specs.Promises.{Attests}
 use Rattle.station.specs.Promises.{MakesToken}
@@ -14,9 +17,9 @@ use Rattle.claims_monitor.specs.Witness as small
 use Rattle.claims_monitor.specs.Witness.{region_bytes}
 use Rattle.claims_examples.specs.PageCase.{entry}
 
--- the refusal with this number at this place
-abbrev refusal : ℕ → ℕ → Refusal
-refusal n p = record { number = n; place = p }
+-- the refusal for this reason at this place
+abbrev refusal : Reason → ℕ → Refusal
+refusal n p = record { reason = n; place = p }
 
 abbrev pub zero_bytes : ℕ → List ℕ
 zero_bytes n = replicate n 0
@@ -57,24 +60,30 @@ overlapping =
     ++ (0x01 ∷ 0x10 ∷ 1 ∷ 0 ∷ 0xcc ∷ [])
 
 pub record EachRefusal : Type 0 where
-  pub memory_size : Traces [] page_bytes [] [] [] [] (traced.Refused (refusal 1 0))
-  pub layout_size : Checks [] (checked.Refused (refusal 2 0))
-  pub region_reversed : Checks backward (checked.Refused (refusal 3 5))
-  pub region_size : Checks narrow (checked.Refused (refusal 4 3))
-  pub zero_in_code : Checks zeroed (checked.Refused (refusal 5 0))
-  pub regions_share : Checks shared (checked.Refused (refusal 6 0))
-  pub trace_size : Traces zero_memory page_bytes (zero_bytes 13) [] zero_memory [] (traced.Refused (refusal 7 0))
+  -- the reasons have the page's numbers
+  pub numbers :
+      number MemorySize ∷ number LayoutSize ∷ number RegionReversed ∷ number RegionSize ∷ number ZeroInCode
+      ∷ number RegionsShare ∷ number TraceSize ∷ number RoomSize ∷ number StepNotZero ∷ number ChallengeNotGreater
+      ∷ number TokenDiffers ∷ number LengthOrTotal ∷ number Contents ∷ number Segment ∷ number FileSize ∷ []
+      ≡ 1 ∷ 2 ∷ 3 ∷ 4 ∷ 5 ∷ 6 ∷ 7 ∷ 8 ∷ 9 ∷ 10 ∷ 11 ∷ 12 ∷ 13 ∷ 14 ∷ 15 ∷ []
+  pub memory_size : Traces [] page_bytes [] [] [] [] (Err (refusal MemorySize 0))
+  pub layout_size : Checks [] (Err (refusal LayoutSize 0))
+  pub region_reversed : Checks backward (Err (refusal RegionReversed 5))
+  pub region_size : Checks narrow (Err (refusal RegionSize 3))
+  pub zero_in_code : Checks zeroed (Err (refusal ZeroInCode 0))
+  pub regions_share : Checks shared (Err (refusal RegionsShare 0))
+  pub trace_size : Traces zero_memory page_bytes (zero_bytes 13) [] zero_memory [] (Err (refusal TraceSize 0))
   pub room_size : Traces zero_memory page_bytes (zero_bytes 12) (zero_bytes 3) zero_memory (zero_bytes 3)
-      (traced.Refused (refusal 8 0))
+      (Err (refusal RoomSize 0))
   pub step_not_zero : Traces zero_memory page_bytes unclean_trace (zero_bytes 8) zero_memory (zero_bytes 8)
-      (traced.Refused (refusal 9 1))
+      (Err (refusal StepNotZero 1))
   -- challenge and CTR are 32 zeros
   pub challenge_not_greater : Attests (small.board 0 0 0 0) small.layout (small.board 0 0 0 0)
-      (call.Refused (refusal 10 0))
+      (Err (refusal ChallengeNotGreater 0))
   -- the challenge begins with 1, and the token is 32 zeros
-  pub token_differs : Attests (small.board 0 0 0 1) small.layout (small.board 0 0 0 1) (call.Refused (refusal 11 0))
+  pub token_differs : Attests (small.board 0 0 0 1) small.layout (small.board 0 0 0 1) (Err (refusal TokenDiffers 0))
   pub length_or_total : MakesToken (zero_bytes 63) (zero_bytes 32)
-      (record { answer = call.Refused (refusal 12 0); bytes = zero_bytes 32 })
-  pub contents : Judges (zero_bytes 23) [] [] [] [] (traced.Refused (refusal 13 0))
-  pub segment : Judges overlapping zero_memory [] zero_memory [] (traced.Refused (refusal 14 1))
-  pub file_size : Judges (zero_bytes 49153) [] [] [] [] (traced.Refused (refusal 15 0))
+      (Err (refusal LengthOrTotal 0))
+  pub contents : Judges (zero_bytes 23) [] [] [] [] (Err (refusal Contents 0))
+  pub segment : Judges overlapping zero_memory [] zero_memory [] (Err (refusal Segment 1))
+  pub file_size : Judges (zero_bytes 49153) [] [] [] [] (Err (refusal FileSize 0))

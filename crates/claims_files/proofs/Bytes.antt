@@ -11,7 +11,6 @@ use lib.Seq.{ext_get_or, get_or-take, get_or-drop, get_or-set_same, get_or-set_o
 use borrow.Author.Tests.{ltb-true, ltb-false}
 use Rattle.notions.proofs.Tests.{cases, clash, untrue}
 use Rattle.notions.proofs.First.{first_same}
-use Rattle.refusal.specs.declared.Answer.TheVariants.{Done}
 use Rattle.layout.specs.Layouts.{layout_of}
 use Rattle.traces.specs.Traces.{step_size}
 use Rattle.file_contents.specs.Contents.{contents_size, entries, entry_size, number_size, layout_entry, memory_entry}
@@ -25,6 +24,7 @@ use Rattle.claims_files.specs.Files.{SameFile, ByteOf, KeyOrScratch, Hidden, Sam
 use Rattle.claims_files.proofs.Segments.{AllHeads, SameHeld, held_heads, all_heads, check_same, told_by_either}
 use Rattle.claims_files.proofs.Segments.{described_agree, agree_held}
 use Rattle.claims_files.proofs.Parts.{parts}
+use Rattle.std.specs.Prelude.{Ok}
 
 -- ---- a part of a list
 
@@ -193,7 +193,7 @@ module _ (f g : List ℕ) (s : SameBytes f g) where
       cc (c, e, layout_same, m, t)
 
   -- and have one form and memories that agree
-  pub memories_agree : segment_check (body f memory_entry) ≡ Done → Agree (file_layout f) (file_memory f) (file_memory g)
+  pub memories_agree : segment_check (body f memory_entry) ≡ Ok tt → Agree (file_layout f) (file_memory f) (file_memory g)
   memories_agree e =
       described_agree (body f memory_entry) (body g memory_entry) memory_long memory_heads (file_layout f) e memory_same
 
@@ -235,7 +235,7 @@ module _ (f g : List ℕ) (s : SameBytes f g) where
 
 -- ---- and back: two files of one form that hold the same
 
-module _ (f g : List ℕ) (c : file_check f ≡ Done) (e : segment_check (body f memory_entry) ≡ Done)
+module _ (f g : List ℕ) (c : file_check f ≡ Ok tt) (e : segment_check (body f memory_entry) ≡ Ok tt)
     (s : SameForm f g) (same : SameFile f g) where
   low_form : SameLow f g
   low_form k h =

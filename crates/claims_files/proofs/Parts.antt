@@ -14,8 +14,7 @@ use Rattle.notions.specs.First.{first}
 use Rattle.notions.proofs.Tests.{cases}
 use Rattle.notions.proofs.First.{first_found, first_is, none_found, found_none}
 use Rattle.refusal.specs.Answers.{refused_at}
-use Rattle.refusal.specs.Numbers.{contents}
-use Rattle.refusal.specs.declared.Answer.TheVariants.{Done}
+use Rattle.refusal.specs.declared.Reason.TheVariants.{Contents}
 use Rattle.refusal.proofs.Order.{done_passed}
 use Rattle.layout.specs.Layouts.{layout_bytes}
 use Rattle.file_contents.specs.Contents.{largest_file, contents_size, entries, layout_entry, memory_entry, trace_entry}
@@ -25,6 +24,7 @@ use Rattle.file_contents.proofs.Entries.{sound, Right, right}
 use Rattle.file_segments.specs.Segments.{place, segments, segment_check}
 use Rattle.file_segments.proofs.Described as D
 use Rattle.claims_files.specs.Files.{FileParts, cut_place}
+use Rattle.std.specs.Prelude.{Ok}
 
 -- ---- the end of the segments
 
@@ -42,21 +42,21 @@ reaches b =
     (λ e. leb-true (length b) (place b s) (first_found (length b) past (ltb-true s (length b) e)))
     (λ e. omega (arith, ltb-false s (length b) e, place_grows b s))
 
-keeps_within : (b : List ℕ) → segment_check b ≡ Done → (n : ℕ) → n ≤ segments b → place b n ≤ length b
+keeps_within : (b : List ℕ) → segment_check b ≡ Ok tt → (n : ℕ) → n ≤ segments b → place b n ≤ length b
 unfolding place
 keeps_within b e zero h = omega arith
 keeps_within b e (suc n) h = (D.all_right b e n h).contents
 
-pub segments_end : (b : List ℕ) → segment_check b ≡ Done → place b (segments b) ≡ length b
+pub segments_end : (b : List ℕ) → segment_check b ≡ Ok tt → place b (segments b) ≡ length b
 segments_end b e = omega (arith, reaches b, keeps_within b e (segments b) (omega arith))
 
 -- ---- a file that passes
 
-none_fails : (f : List ℕ) → file_check f ≡ Done → (k : ℕ) → k < entries → entry_fails f k ≡ false
+none_fails : (f : List ℕ) → file_check f ≡ Ok tt → (k : ℕ) → k < entries → entry_fails f k ≡ false
 unfolding file_check first_failing
 none_fails f e k h =
     let p = done_passed (ltb largest_file (length f)) _ _ e in
-    let q = done_passed (ltb (first_failing f) entries) _ Done p.1 in
+    let q = done_passed (ltb (first_failing f) entries) _ (Ok tt) p.1 in
     cases (ltb (length f) contents_size) (λ t. absurd (omega (arith, ltb-false 0 entries (simp t at q.0))))
     (λ t. none_found entries (entry_fails f) (simp t at q.0) k h)
 
@@ -75,7 +75,7 @@ in_parts f h =
     (take-add a (size f memory_entry) f
     ∙ ap (λ (p : List ℕ). p ++ body f memory_entry) (take-add contents_size (size f layout_entry) f))
 
-pub parts : (f : List ℕ) → file_check f ≡ Done → FileParts f
+pub parts : (f : List ℕ) → file_check f ≡ Ok tt → FileParts f
 unfolding body entry_fails
 parts f e =
     let s = sound f e in
@@ -124,7 +124,7 @@ module _ (f : List ℕ) (p : FileParts f) where
       )
   no_entry_fails (suc (suc (suc k))) h = absurd (omega arith)
 
-  pub passes : file_check f ≡ Done
+  pub passes : file_check f ≡ Ok tt
   unfolding file_check first_failing
   passes =
       simp (
@@ -148,7 +148,7 @@ place_below f n =
     cases (ltb n (begins f memory_entry)) (λ u. simp u)
     (λ u. cases (ltb n (begins f trace_entry)) (λ v. simp (u, v)) (λ v. simp (u, v)))
 
--- a number of the contents, read from what is left
+-- a number of the Contents, read from what is left
 number_left : (f : List ℕ) (n p : ℕ) → p + number_size ≤ n
     → take number_size (drop p (take n f)) ≡ take number_size (drop p f)
 number_left f n p h =
@@ -161,14 +161,14 @@ number_left f n p h =
     ∙ get_or-take n f (p + i) 0 (omega arith)
     ∙ sym (get_or-take number_size (drop p f) i 0 m ∙ get_or-drop p f i 0))
 
-module _ (f : List ℕ) (n : ℕ) (e : file_check f ≡ Done) (h : n < length f) where
+module _ (f : List ℕ) (n : ℕ) (e : file_check f ≡ Ok tt) (h : n < length f) where
   abbrev left : List ℕ
   left = take n f
 
   length_left : length left ≡ n
   length_left = simp length-take (omega arith)
 
-  -- where the contents are left, the entries are the same, and those fail whose body is not whole
+  -- where the Contents are left, the entries are the same, and those fail whose body is not whole
   module _ (l : contents_size ≤ n) where
     offset_left : (k : ℕ) → k < entries → offset left k ≡ offset f k
     offset_left k m = cc (number_left f n (entry_size * k) (omega arith))
@@ -242,6 +242,6 @@ module _ (f : List ℕ) (n : ℕ) (e : file_check f ≡ Done) (h : n < length f)
   short : ltb largest_file (length left) ≡ false
   short = le-ltb largest_file (length left) (omega (arith, length_left, (parts f e).most))
 
-  pub cut_fails : file_check left ≡ refused_at contents (cut_place f n)
+  pub cut_fails : file_check left ≡ refused_at Contents (cut_place f n)
   unfolding file_check
   cut_fails = simp (short, at_place, place_below f n)

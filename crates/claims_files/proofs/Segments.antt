@@ -13,7 +13,6 @@ use borrow.Author.Tests.{ltb-true, ltb-false, leb-true, leb-false, not-true}
 use Rattle.notions.specs.First.{first}
 use Rattle.notions.proofs.Tests.{cases, clash, untrue, both, neither}
 use Rattle.notions.proofs.First.{first_found, first_same, none_found}
-use Rattle.refusal.specs.declared.Answer.TheVariants.{Done}
 use Rattle.layout.specs.declared.Layout.{Layout}
 use Rattle.layout.specs.Regions.{within, outside}
 use Rattle.layout.specs.Calls.{memory_bytes}
@@ -24,6 +23,7 @@ use Rattle.claims_monitor.specs.Demand3.{Agree}
 use Rattle.claims_monitor.specs.Outside.{kr_or_xs}
 use Rattle.claims_files.specs.Files.{KeyOrScratch, SameHeads}
 use Rattle.claims_files.proofs.Parts.{segments_end}
+use Rattle.std.specs.Prelude.{Ok}
 
 in_order : {P : Type 0} (j k : ℕ) → (j < k → P) → (k < j → P) → (j ≡ k → P) → P
 in_order j k f g h =
@@ -94,7 +94,7 @@ pub held_heads : (l : Layout) (b c : List ℕ) → SameHeld l b c → AllHeads b
 held_heads l b c s j i h = s (place b j + i) (head_open l b j i h)
 
 -- behind the last segment there is nothing
-pub all_heads : (b c : List ℕ) → length b ≡ length c → segment_check b ≡ Done → SameHeads b c → AllHeads b c
+pub all_heads : (b c : List ℕ) → length b ≡ length c → segment_check b ≡ Ok tt → SameHeads b c → AllHeads b c
 all_heads b c long e s j i h =
     let n = segments b in
     let z = segments_end b e in
@@ -173,8 +173,8 @@ module _ (b c : List ℕ) (long : length b ≡ length c) (heads : AllHeads b c) 
 
   -- ---- the memories that they describe
 
-  module _ (l : Layout) (e : segment_check b ≡ Done) where
-    also : segment_check c ≡ Done
+  module _ (l : Layout) (e : segment_check b ≡ Ok tt) where
+    also : segment_check c ≡ Ok tt
     also = sym check_same ∙ e
 
     -- byte i of segment k, in the body and in the memory

@@ -1,16 +1,14 @@
 -- Run files: what they are made of, what one that is judged comes to, two that differ in key and scratch, and two cases
 -- of refusal. Claims; proofs/Files.antt has the proofs. Assumes nothing.
-use Rattle.std.specs.Prelude.{◌≡◌, true, ◌≢◌, ◌↔◌, ◌⊎◌, List, ◌++◌, ℕ, ◌+◌, ◌≤◌, ◌<◌, ltb, length, get_or, take, set}
+use Rattle.std.specs.Prelude.{◌≡◌, true, ◌≢◌, ◌↔◌, ◌⊎◌, List, ◌++◌, ℕ, ◌+◌, ◌≤◌, ◌<◌, ltb, length, get_or, take, set, Err, Ok, Result}
 use Rattle.notions.specs.Choice.{pick}
-use Rattle.refusal.specs.Numbers.{layout_size, contents}
+use Rattle.refusal.specs.Numbers.{number}
+use Rattle.refusal.specs.declared.Reason.TheVariants.{LayoutSize, Contents}
 use Rattle.refusal.specs.declared.Refusal.{Refusal}
-use Rattle.refusal.specs.declared.Answer.TheVariants.{Done}
 use Rattle.layout.specs.declared.Layout.{Layout}
 use Rattle.layout.specs.Layouts.{layout_bytes}
 use Rattle.layout.specs.Calls.{memory_bytes}
 use Rattle.monitor.specs.declared.Totals.{Totals}
-use Rattle.monitor.specs.declared.Traced.{Traced}
-use Rattle.monitor.specs.declared.Traced.TheVariants.{Judged, Refused}
 use Rattle.monitor.specs.Promises.{Traces}
 use Rattle.file_contents.specs.Contents.{largest_file, contents_size, entries, layout_entry, memory_entry, trace_entry}
 use Rattle.file_contents.specs.Contents.{offset, size, begins, file_check, body}
@@ -33,7 +31,7 @@ pub record FileParts (f : List ℕ) : Type 0 where
 
 -- the contents of exactly these files pass
 abbrev pub Bodies : Type 0
-Bodies = (f : List ℕ) → (file_check f ≡ Done) ↔ FileParts f
+Bodies = (f : List ℕ) → (file_check f ≡ Ok tt) ↔ FileParts f
 
 -- ---- the memory that segments describe, byte by byte
 
@@ -54,7 +52,7 @@ pub record Described (b : List ℕ) : Type 0 where
   pub unnamed : (a : ℕ) → a < memory_bytes → ((k : ℕ) → k < segments b → Names b k a → ⊥) → get_or (described b) a 0 ≡ 0
 
 abbrev pub DescribedSo : Type 0
-DescribedSo = (b : List ℕ) → segment_check b ≡ Done → Described b
+DescribedSo = (b : List ℕ) → segment_check b ≡ Ok tt → Described b
 
 -- ---- a file that is judged
 
@@ -62,15 +60,15 @@ DescribedSo = (b : List ℕ) → segment_check b ≡ Done → Described b
 -- is claimed of calls that judge a trace holds of it
 abbrev pub FileIsTrace : Type 0
 FileIsTrace =
-    (file memory room memory' room' : List ℕ) (t : Totals) → Judges file memory room memory' room' (Judged t)
-    → Traces (file_memory file) (body file layout_entry) (file_trace file) room memory' room' (Judged t)
+    (file memory room memory' room' : List ℕ) (t : Totals) → Judges file memory room memory' room' (Ok t)
+    → Traces (file_memory file) (body file layout_entry) (file_trace file) room memory' room' (Ok t)
 
 -- and what stood in the lent memory is not seen
 abbrev pub MemoryUnseen : Type 0
 MemoryUnseen =
-    (file x y room x' room₁ y' room₂ : List ℕ) (r q : Traced) → length x ≡ length y
+    (file x y room x' room₁ y' room₂ : List ℕ) (r q : Result Totals Refusal) → length x ≡ length y
     → Judges file x room x' room₁ r → Judges file y room y' room₂ q
-    → (r ≡ q) × (room₁ ≡ room₂) × ((t : Totals) → r ≡ Judged t → x' ≡ y')
+    → (r ≡ q) × (room₁ ≡ room₂) × ((t : Totals) → r ≡ Ok t → x' ≡ y')
 
 -- ---- two files that hold the same but for key and scratch
 
@@ -84,13 +82,13 @@ pub record SameFile (f g : List ℕ) : Type 0 where
 abbrev pub Demand3Files : Type 0
 Demand3Files =
     (f g x y room x' y' room₁ room₂ : List ℕ) (t u : Totals) → SameFile f g
-    → Judges f x room x' room₁ (Judged t) → Judges g y room y' room₂ (Judged u)
+    → Judges f x room x' room₁ (Ok t) → Judges g y room y' room₂ (Ok u)
     → SameCall (file_layout f) t u room₁ room₂ x' y'
 
 -- so the same text is printed of two such files if both are judged
 abbrev pub PrintsTheSame : Type 0
 PrintsTheSame =
-    (f g x y room : List ℕ) → SameFile f g → judge_check f x room ≡ Done → judge_check g y room ≡ Done
+    (f g x y room : List ℕ) → SameFile f g → judge_check f x room ≡ Ok tt → judge_check g y room ≡ Ok tt
     → file_text f x room ≡ file_text g y room
 
 -- ---- two files with the same bytes but for key and scratch
@@ -124,9 +122,9 @@ pub record SameBytes (f g : List ℕ) : Type 0 where
 -- differ at most in KR and XS
 abbrev pub Demand3Bytes : Type 0
 Demand3Bytes =
-    (f g x y room x' y' room₁ room₂ : List ℕ) (r q : Traced) → SameBytes f g → length x ≡ length y
+    (f g x y room x' y' room₁ room₂ : List ℕ) (r q : Result Totals Refusal) → SameBytes f g → length x ≡ length y
     → Judges f x room x' room₁ r → Judges g y room y' room₂ q
-    → (r ≡ q) × (room₁ ≡ room₂) × ((t : Totals) → r ≡ Judged t → Agree (file_layout f) x' y')
+    → (r ≡ q) × (room₁ ≡ room₂) × ((t : Totals) → r ≡ Ok t → Agree (file_layout f) x' y')
 
 -- and the same text is printed of both, refused or not
 abbrev pub PrintsAlike : Type 0
@@ -152,7 +150,7 @@ pub record SameForm (f g : List ℕ) : Type 0 where
 -- the same bytes: nothing more is hidden, and nothing less
 abbrev pub SameBytesExact : Type 0
 SameBytesExact =
-    (f g : List ℕ) → file_check f ≡ Done → segment_check (body f memory_entry) ≡ Done
+    (f g : List ℕ) → file_check f ≡ Ok tt → segment_check (body f memory_entry) ≡ Ok tt
     → SameBytes f g ↔ (SameForm f g × SameFile f g)
 
 -- it does not matter which of the two files says where the hidden places are
@@ -171,12 +169,12 @@ cut_place f n =
 -- that stands before the trace is left
 abbrev pub CutShort : Type 0
 CutShort =
-    (f memory room memory' room' : List ℕ) (n : ℕ) (r : Traced) → file_check f ≡ Done → n < length f
+    (f memory room memory' room' : List ℕ) (n : ℕ) (r : Result Totals Refusal) → file_check f ≡ Ok tt → n < length f
     → Judges (take n f) memory room memory' room' r
-    → r ≡ Refused (record { number = contents; place = cut_place f n })
+    → r ≡ Err (record { reason = Contents; place = cut_place f n })
 
 -- a layout body has 24 bytes, so 2 is never given
 abbrev pub NeverLayoutSize : Type 0
 NeverLayoutSize =
-    (file memory room memory' room' : List ℕ) (r : Refusal) → Judges file memory room memory' room' (Refused r)
-    → r.number ≢ layout_size
+    (file memory room memory' room' : List ℕ) (r : Refusal) → Judges file memory room memory' room' (Err r)
+    → number r.reason ≢ number LayoutSize

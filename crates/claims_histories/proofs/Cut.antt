@@ -11,7 +11,6 @@ use lib.ListN.{length, get_or, take, drop, length-take, length-drop}
 use lib.Seq.{sets, length-sets, length-take-le, sets-eq, take-add, take-append-add, drop_at, drop-drop}
 use borrow.Author.Tests.{eqb-true, ltb-true, ltb-false, lt-ltb, le-ltb}
 use Rattle.notions.specs.Bytes.{Bytes}
-use Rattle.refusal.specs.declared.Answer.TheVariants.{Done}
 use Rattle.notions.proofs.Tests.{cases, neither}
 use Rattle.layout.specs.declared.Region.{Region}
 use Rattle.layout.specs.declared.Layout.{Layout}
@@ -45,6 +44,7 @@ use Rattle.claims_histories.specs.Cut.{Uncounted, played_to}
 use Rattle.claims_histories.proofs.Visit.{visit_passes, unheld_after, last_after, after_reply, all_replied}
 use Rattle.claims_histories.proofs.Visit.{reply_stored, counter_stored, off_scratch, cut_visit, played_makes}
 use Rattle.claims_histories.proofs.Visit.{played_made}
+use Rattle.std.specs.Prelude.{Ok}
 
 -- ---- answered and not counted
 
@@ -148,7 +148,7 @@ visit_uncounted layout memory' t x n i h free a makes k e =
 pub answered_again : claim.AnsweredAgain
 answered_again memory layout memory' y y' r h a u b =
     let l = layout_of layout in
-    let f = frame layout y memory y' memory' r Done h u.request b a in
+    let f = frame layout y memory y' memory' r (Ok tt) h u.request b a in
     let d = f.0 in
     let v = accepts y layout y' h (subst (Attests y layout y') d b) in
     let w = accepts memory layout memory' h a in (
@@ -195,7 +195,7 @@ stored_over l a m v h =
     (sym (ap (drop n) f ∙ drop_at (take n (drop a l)) (take m (drop n (drop a l))) n s
     ∙ ap (take m) (drop-drop n a l)))
 
-module _ (memory layout memory' : List ℕ) (h : Bytes layout) (a : Attests memory layout memory' Done) where
+module _ (memory layout memory' : List ℕ) (h : Bytes layout) (a : Attests memory layout memory' (Ok tt)) where
   abbrev lc : Layout
   lc = layout_of layout
 

@@ -9,10 +9,8 @@ use lib.Dec.{eqb, ltb}
 use lib.ListN.{length, get_or}
 use borrow.Author.Tests.{eqb-true, eqb-false, ltb-true, ltb-false}
 use Rattle.notions.specs.Bytes.{Bytes}
-use Rattle.refusal.specs.Answers.{refused_at, after_call}
-use Rattle.refusal.specs.Numbers.{challenge_not_greater}
-use Rattle.refusal.specs.declared.Answer.{Answer}
-use Rattle.refusal.specs.declared.Answer.TheVariants.{Done, Refused}
+use Rattle.refusal.specs.Answers.{Answer, refused_at, after_call}
+use Rattle.refusal.specs.declared.Reason.TheVariants.{ChallengeNotGreater}
 use Rattle.notions.proofs.Tests.{cases, clash, untrue}
 use Rattle.layout.specs.declared.Layout.{Layout}
 use Rattle.layout.specs.Regions.{within, size}
@@ -35,8 +33,6 @@ use Rattle.board.specs.Attestation.{due, accepted}
 use Rattle.board.specs.Promises.{Attests}
 use Rattle.board.proofs.Stores.{bytes_read}
 use Rattle.board.proofs.Laws.{length_bytes_lem, region_agrees, length_challenge, due_is, attested_refused}
-use Rattle.station.specs.declared.Verdict.{Verdict}
-use Rattle.station.specs.declared.Verdict.TheVariants.{Yes}
 use Rattle.station.specs.Promises.{ChecksReply}
 use Rattle.station.proofs.Settled.{checks_reply_settled}
 use Rattle.claims_monitor.specs.Traces.{remembers, byte_at}
@@ -50,6 +46,8 @@ use Rattle.claims_attestation.proofs.Demand2.{old_refused, agrees, agrees_as}
 use Rattle.claims_attestation.proofs.Posted.{request_long, request_is, request_code, request_key, request_counter}
 use Rattle.claims_attestation.proofs.Posted.{request_attested, request_else, request_done}
 use Rattle.claims_monitor.proofs.Traces.{length_kept, stays_through, rom, guarded}
+use Rattle.std.specs.Prelude.{Bool, Err, Ok, Result}
+use Rattle.refusal.specs.declared.Refusal.{Refusal}
 
 -- ---- a trace
 
@@ -109,7 +107,7 @@ record Raises (l : Layout) (x y : List ℕ) : Type 0 where
   counted : counter l y ≡ challenge l x
   long : length (challenge l x) ≡ 32
 
-raises : (layout x y : List ℕ) → Bytes layout → Attests x layout y Done → Raises (layout_of layout) x y
+raises : (layout x y : List ℕ) → Bytes layout → Attests x layout y (Ok tt) → Raises (layout_of layout) x y
 raises layout x y h p =
     let c = accepts x layout y h p in
     record {
@@ -131,10 +129,10 @@ rises_on a b c p q =
 
 event_rises : (layout : List ℕ) → Bytes layout → (e : Event) (x y : List ℕ) → Happens layout e x y
     → Rises (counter (layout_of layout) x) (counter (layout_of layout) y)
-event_rises layout h (attest Done) x y p =
+event_rises layout h (attest (Ok _)) x y p =
     let a = raises layout x y h p in
     inr (rw a.counted a.fresh)
-event_rises layout h (attest (Refused r)) x y p =
+event_rises layout h (attest (Err r)) x y p =
     inl (ap (λ (m : List ℕ). counter (layout_of layout) m) (attested_refused x layout y r p).1)
 event_rises layout h (trace b r) x y p =
     inl (trace_keeps x layout b p.0.0 y p.0.1 r p.0.2 p.1).counter
@@ -164,7 +162,7 @@ old_stays_old h i j p q c e =
     (greater_rises (counter_at h i) (counter_at h j) c (counter_rises h i j p q) g) e)
 
 accepted_attests : (h : History) (i : ℕ) (c : List ℕ) → Accepted h i c
-    → Attests (h.memories i) h.layout (h.memories (suc i)) Done
+    → Attests (h.memories i) h.layout (h.memories (suc i)) (Ok tt)
 accepted_attests h i c a =
     subst (λ (e : Event). Happens h.layout e (h.memories i) (h.memories (suc i))) a.event
     (h.happens i a.happened)
@@ -225,8 +223,8 @@ later_is_larger h i j c d a b = (
 
 -- the memory keeps its length at every event
 event_long : (layout : List ℕ) → Bytes layout → (e : Event) (x y : List ℕ) → Happens layout e x y → length y ≡ length x
-event_long layout h (attest Done) x y p = (accepts x layout y h p).served.long
-event_long layout h (attest (Refused r)) x y p = ap length (attested_refused x layout y r p).1
+event_long layout h (attest (Ok _)) x y p = (accepts x layout y h p).served.long
+event_long layout h (attest (Err r)) x y p = ap length (attested_refused x layout y r p).1
 event_long layout h (trace b r) x y p = (trace_keeps x layout b p.0.0 y p.0.1 r p.0.2 p.1).long
 event_long layout h change x y p = p.long
 
@@ -248,7 +246,7 @@ kept_since h f each i (suc j) p q =
 old_at : (h : History) (i j : ℕ) → i ≤ j → j < h.n → length (h.memories i) ≡ memory_bytes → Good h.layout
     → (r : Answer) → h.events j ≡ attest r
     → greater (challenge (layout_of h.layout) (h.memories j)) (counter_at h j) ≡ false
-    → r ≡ refused_at challenge_not_greater 0
+    → r ≡ refused_at ChallengeNotGreater 0
 old_at h i j p q long good r e g =
     (old_refused (h.memories j) h.layout (h.memories (suc j)) r
     (subst (λ (k : Event). Happens h.layout k (h.memories j) (h.memories (suc j))) e (h.happens j q))).1
@@ -289,8 +287,8 @@ refused_for_ever h i p e j q n r f g =
 -- an accepted call stores nothing into KR
 event_key : (layout : List ℕ) → Bytes layout → (e : Event) (x y : List ℕ) → Happens layout e x y
     → key (layout_of layout) y ≡ key (layout_of layout) x
-event_key layout h (attest Done) x y p = accepted_key x layout y h p
-event_key layout h (attest (Refused r)) x y p =
+event_key layout h (attest (Ok _)) x y p = accepted_key x layout y h p
+event_key layout h (attest (Err r)) x y p =
     ap (λ (m : List ℕ). key (layout_of layout) m) (attested_refused x layout y r p).1
 event_key layout h (trace b r) x y p = (trace_keeps x layout b p.0.0 y p.0.1 r p.0.2 p.1).key
 event_key layout h change x y p = p.key
@@ -300,7 +298,7 @@ key_stays h i p =
     kept_since h (key (layout_of h.layout)) (event_key h.layout h.in_bytes) 0 i (omega arith) p
 
 -- what the station says to the reply of one accepted request
-tells : (h : History) (i : ℕ) (c expected : List ℕ) (v : Verdict) → CheckedReply h i c expected v
+tells : (h : History) (i : ℕ) (c expected : List ℕ) (v : Result Bool Refusal) → CheckedReply h i c expected v
     → Tells h i c expected v
 tells h i c expected v k =
     let a = k.accepted in
@@ -310,7 +308,7 @@ tells h i c expected v k =
     let g = agrees x h.layout y h.in_bytes (accepted_attests h i c a) in
     let o = (agrees_as (key_stays h i (omega arith)) (sym a.request) refl g).other expected k.some k.most in (
       λ e. o.0 (subst (ChecksReply _ _ _ _) e k.said),
-      λ e. checks_reply_settled _ _ _ _ v Yes k.said (o.1 e),
+      λ e. checks_reply_settled _ _ _ _ v (Ok true) k.said (o.1 e),
     )
 
 pub last_tells : claim.LastTells
@@ -326,7 +324,7 @@ pub record Exchange (layout memory c : List ℕ) : Type 0 where
   pub keeps : Keeps (layout_of layout) memory request
   pub region : attested (layout_of layout) request ≡ attested (layout_of layout) memory
   pub asks : c ≡ challenge (layout_of layout) request
-  pub serves : Attests request layout after Done
+  pub serves : Attests request layout after (Ok tt)
   pub counted : counter (layout_of layout) after ≡ c
   pub long : length after ≡ memory_bytes
   pub replies : replied (layout_of layout) after ≡ due (layout_of layout) request
@@ -355,7 +353,7 @@ exchange layout b good memory c long lc fresh =
     let is = request_is layout b good memory c t long lc refl in
     let region = request_attested layout b good memory c t long lc refl in
     let done = request_done layout b good memory c t long lc refl fresh in
-    let serves : Attests m layout (accepted l m) Done = record { answered = simp done; memory_left = simp done } in
+    let serves : Attests m layout (accepted l m) (Ok tt) = record { answered = simp done; memory_left = simp done } in
     let s = (accepts m layout (accepted l m) b serves).served in
     record {
       request = m;
@@ -396,9 +394,9 @@ both_served memory layout c d b long good lc ld fresh rises =
   where
     events : ℕ → Event
     events zero = change
-    events (suc zero) = attest Done
+    events (suc zero) = attest (Ok tt)
     events (suc (suc zero)) = change
-    events (suc (suc (suc i))) = attest Done
+    events (suc (suc (suc i))) = attest (Ok tt)
 
     memories : List ℕ → List ℕ → List ℕ → List ℕ → List ℕ → ℕ → List ℕ
     memories a b c d e zero = a
@@ -408,8 +406,8 @@ both_served memory layout c d b long good lc ld fresh rises =
     memories a b c d e (suc (suc (suc (suc i)))) = e
 
     four : (m : ℕ → List ℕ) (i : ℕ) → i < 4 → Happens layout change (m 0) (m 1)
-        → Happens layout (attest Done) (m 1) (m 2)
-        → Happens layout change (m 2) (m 3) → Happens layout (attest Done) (m 3) (m 4)
+        → Happens layout (attest (Ok tt)) (m 1) (m 2)
+        → Happens layout change (m 2) (m 3) → Happens layout (attest (Ok tt)) (m 3) (m 4)
         → Happens layout (events i) (m i) (m (suc i))
     four m zero h p q r s = p
     four m (suc zero) h p q r s = q

@@ -12,7 +12,6 @@ use Rattle.notions.specs.First.{first}
 use Rattle.notions.proofs.Bytes.{bytes_cons}
 use Rattle.notions.proofs.Tests.{untrue, both}
 use Rattle.refusal.proofs.Settled.{row_settled}
-use Rattle.refusal.specs.declared.Answer.TheVariants.{Done}
 use Rattle.layout.specs.declared.Region.{Region}
 use Rattle.layout.specs.Regions.{within, size}
 use Rattle.layout.specs.Layouts.{MR, CTR, layout_of, layout_check}
@@ -38,6 +37,7 @@ use Rattle.claims_histories.specs.History.{Event, attest, trace, change, Keeps, 
 use Rattle.claims_histories.proofs.History.{Exchange, exchange, trace_keeps}
 use Rattle.claims_histories.proofs.OutOfOrder.{cut_traced, happens, cut_leaves, cut_because}
 use Rattle.claims_histories.proofs.OutOfOrder.{changed, changed_keeps, changed_region}
+use Rattle.std.specs.Prelude.{Ok}
 
 -- ---- the counter is kept
 
@@ -73,7 +73,7 @@ counter_moved layout moved memory c b good good_moved v long lc fresh fresh_move
     let came : received m y ≡ received l x =
     ap (λ (r : Region). bytes_at (r.lo + 32) 32 y) v.mail ∙ accepted_received x layout y b p in
     let k : key m y ≡ key l x = ap (λ (r : Region). bytes_of r y) v.key ∙ accepted_key x layout y b p in
-    let done : attest_check y moved ≡ Done =
+    let done : attest_check y moved ≡ Ok tt =
     allowed_done y moved (record {
       long = e.long;
       laid = good_done moved good_moved;
@@ -159,7 +159,7 @@ cut_visit layout memory c b p =
       after = memory_after l t x;
       posts = p.keeps;
       asks = sym p.asks;
-      genuine = ((accepts_exactly x layout p.after Done p.serves).0 refl).2;
+      genuine = ((accepts_exactly x layout p.after (Ok tt) p.serves).0 refl).2;
       judged = h;
       because = cut_because x layout p.after b p.serves;
       keeps = trace_keeps x layout t h.0.0 (memory_after l t x) h.0.1 cut_traced h.0.2 h.1;
@@ -220,7 +220,7 @@ in_a_row layout memory c d altered b p a q larger =
     events b (suc zero) = trace b cut_traced
     events b (suc (suc zero)) = change
     events b (suc (suc (suc zero))) = change
-    events b (suc (suc (suc (suc i)))) = attest Done
+    events b (suc (suc (suc (suc i)))) = attest (Ok tt)
 
     memories : List ℕ → List ℕ → List ℕ → List ℕ → List ℕ → List ℕ → ℕ → List ℕ
     memories a b c d e f zero = a
@@ -233,7 +233,7 @@ in_a_row layout memory c d altered b p a q larger =
     five : (b : List ℕ) (m : ℕ → List ℕ) (i : ℕ) → i < 5 → Happens layout change (m 0) (m 1)
         → Happens layout (events b 1) (m 1) (m 2)
         → Happens layout change (m 2) (m 3) → Happens layout change (m 3) (m 4)
-        → Happens layout (attest Done) (m 4) (m 5)
+        → Happens layout (attest (Ok tt)) (m 4) (m 5)
         → Happens layout (events b i) (m i) (m (suc i))
     five b m zero h p q r s t = p
     five b m (suc zero) h p q r s t = q

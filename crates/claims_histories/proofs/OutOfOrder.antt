@@ -13,7 +13,6 @@ use borrow.Author.Tests.{ltb-true}
 use Rattle.notions.specs.Bytes.{Bytes}
 use Rattle.notions.specs.Choice.{pick}
 use Rattle.notions.proofs.Tests.{cases, clash, untrue}
-use Rattle.refusal.specs.declared.Answer.TheVariants.{Done}
 use Rattle.layout.specs.declared.Region.{Region}
 use Rattle.layout.specs.declared.Layout.{Layout}
 use Rattle.layout.specs.Regions.{within, size}
@@ -27,8 +26,6 @@ use Rattle.steps.specs.declared.Step.{Step}
 use Rattle.steps.specs.Steps.{Addressed}
 use Rattle.rules.specs.Rules.{cause, code_writes_in}
 use Rattle.traces.specs.Traces.{count, steps, trace_check}
-use Rattle.monitor.specs.declared.Traced.{Traced}
-use Rattle.monitor.specs.declared.Traced.TheVariants as traced
 use Rattle.monitor.specs.Runs.{State, begin, before, resetting, memory_after, room_after}
 use Rattle.monitor.specs.Promises.{Traces, trace_call_check}
 use Rattle.monitor.proofs.Runs.{Alike, alike}
@@ -49,6 +46,9 @@ use Rattle.claims_histories.proofs.Visit.{visit_passes, code_ends}
 use Rattle.claims_histories.proofs.Cut.{cut_resets, cut_uncounted, can_be_cut}
 use Rattle.claims_histories.proofs.Script.{length_encoded, encoded_fits, code_small, tells_steps, none_reset}
 use Rattle.claims_histories.proofs.Script.{released, first_passes, after_first, played_addressed}
+use Rattle.std.specs.Prelude.{Ok, Result}
+use Rattle.monitor.specs.declared.Totals.{Totals}
+use Rattle.refusal.specs.declared.Refusal.{Refusal}
 
 -- one more step of a run
 counted_more : (l : Layout) (t : ℕ → Step) (x : State) (n : ℕ)
@@ -58,10 +58,10 @@ counted_more l t x n = refl
 
 -- ---- the visit that is cut
 
-abbrev pub cut_traced : Traced
-cut_traced = traced.Judged (record { steps = 34; resets = 1 })
+abbrev pub cut_traced : Result Totals Refusal
+cut_traced = Ok (record { steps = 34; resets = 1 })
 
-module _ (memory layout memory' : List ℕ) (h : Bytes layout) (a : Attests memory layout memory' Done) where
+module _ (memory layout memory' : List ℕ) (h : Bytes layout) (a : Attests memory layout memory' (Ok tt)) where
   abbrev ly : Layout
   ly = layout_of layout
 
@@ -161,7 +161,7 @@ module _ (memory layout memory' : List ℕ) (h : Bytes layout) (a : Attests memo
   abbrev room : List ℕ
   room = replicate 136 0
 
-  checked : trace_call_check memory layout b room ≡ Done
+  checked : trace_call_check memory layout b room ≡ Ok tt
   checked =
       call_rest memory layout (trace_check b (length room)) call.allowed.long call.allowed.laid
       ∙ encoded_fits all 34 (length room) (omega arith) (omega (arith, length-replicate {A = ℕ} 136 0))

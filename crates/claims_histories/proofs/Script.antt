@@ -12,7 +12,6 @@ use lib.Seq.{drop_at}
 use borrow.Author.Tests.{eqb-true, eqb-false, ltb-true, ltb-false, lt-ltb, le-ltb}
 use Rattle.notions.specs.Bytes.{Bytes}
 use Rattle.notions.specs.Choice.{pick}
-use Rattle.refusal.specs.declared.Answer.TheVariants.{Done}
 use Rattle.notions.proofs.Bytes.{bytes_cons, bytes_append}
 use Rattle.notions.proofs.Tests.{cases}
 use Rattle.notions.proofs.First.{found_none}
@@ -27,8 +26,6 @@ use Rattle.steps.specs.Steps.{step_of, flags, encode, Addressed}
 use Rattle.rules.specs.Rules.{cause, start}
 use Rattle.monitor.specs.Decisions.{next}
 use Rattle.steps.proofs.Laws.{flags_most, tells_step, clean_encode}
-use Rattle.monitor.specs.declared.Traced.{Traced}
-use Rattle.monitor.specs.declared.Traced.TheVariants as traced
 use Rattle.monitor.specs.Runs.{State, begin, before, resetting}
 use Rattle.traces.specs.Traces.{step_size, answer_size, count, step_bytes, steps}
 use Rattle.traces.specs.Traces.{most_steps, unclean, trace_check}
@@ -51,6 +48,9 @@ use Rattle.claims_monitor.proofs.Runs.{in_parts}
 use Rattle.claims_monitor.proofs.Traces.{joined_before, release}
 use Rattle.claims_histories.proofs.Visit.{visit_passes, leaves_freely, keeps_memory, store_small, exact_visit}
 use Rattle.claims_histories.proofs.Visit.{played_plays, played_none}
+use Rattle.std.specs.Prelude.{Ok, Result}
+use Rattle.monitor.specs.declared.Totals.{Totals}
+use Rattle.refusal.specs.declared.Refusal.{Refusal}
 
 -- ---- a trace's bytes
 
@@ -75,7 +75,7 @@ pub tells_steps : claim.TellsSteps
 tells_steps t n i h k = ap step_of (encoded_bytes t n i h) ∙ tells_step (t i) k
 
 pub encoded_fits : (t : ℕ → Step) (n room : ℕ) → n ≤ most_steps → answer_size * n ≤ room
-    → trace_check (encoded t n) room ≡ Done
+    → trace_check (encoded t n) room ≡ Ok tt
 unfolding trace_check
 encoded_fits t n room h r =
     let q = length_encoded t n in
@@ -138,7 +138,7 @@ module _ (l : Layout) (t : ℕ → Step) (memory : List ℕ) (e : t 0 ≡ at 0) 
       let p = ap (cause l start) (sym e) ∙ first_passes in
       simp (e, keeps_memory l start (at 0) memory p refl refl) (simp p)
 
-module _ (memory layout memory' : List ℕ) (h : Bytes layout) (a : Attests memory layout memory' Done) where
+module _ (memory layout memory' : List ℕ) (h : Bytes layout) (a : Attests memory layout memory' (Ok tt)) where
   abbrev ly : Layout
   ly = layout_of layout
 
@@ -207,7 +207,7 @@ module _ (memory layout memory' : List ℕ) (h : Bytes layout) (a : Attests memo
         none_reset ly rest (released memory) 65 rest_passes,
       )
 
-  module _ (room memory'' room' : List ℕ) (r : Traced)
+  module _ (room memory'' room' : List ℕ) (r : Result Totals Refusal)
       (c : Traces memory layout (script ly memory) room memory'' room' r) (k : 264 ≤ length room) where
     abbrev b : List ℕ
     b = script ly memory
@@ -218,14 +218,14 @@ module _ (memory layout memory' : List ℕ) (h : Bytes layout) (a : Attests memo
     counts : count b ≡ 66
     counts = omega (arith, length_encoded all 66)
 
-    checked : call_check memory layout (trace_check b (length room)) ≡ Done
+    checked : call_check memory layout (trace_check b (length room)) ≡ Ok tt
     checked =
         call_rest memory layout (trace_check b (length room)) call.allowed.long call.allowed.laid
         ∙ encoded_fits all 66 (length room) (omega arith) k
 
-    judged : r ≡ traced.Judged (record { steps = 66; resets = 0 })
+    judged : r ≡ Ok (record { steps = 66; resets = 0 })
     judged =
-        traced_row_settled r (traced.Judged (record { steps = 66; resets = 0 }))
+        traced_row_settled r (Ok (record { steps = 66; resets = 0 }))
         (c.answered ∙ simp checked (simp (counts, same.counted, all_counted)))
 
     left : memory'' ≡ memory'

@@ -11,7 +11,6 @@ use lib.ListN.{length, get_or, take, set, length-set}
 use lib.Seq.{sets, take_all, get_or-set_same, get_or-set_other}
 use borrow.Author.Tests.{eqb-true, eqb-false, eq-eqb, ne_eqb, ltb-true, ltb-false, lt-ltb, le-ltb}
 use Rattle.notions.specs.Bytes.{Bytes}
-use Rattle.refusal.specs.declared.Answer.TheVariants.{Done}
 use Rattle.notions.proofs.Tests.{cases, clash, neither, both}
 use Rattle.layout.specs.declared.Layout.{Layout}
 use Rattle.layout.specs.Regions.{within, outside}
@@ -40,6 +39,7 @@ use Rattle.claims_histories.specs.Visit as claim
 use Rattle.claims_histories.specs.Visit.{VisitBegins, Free, store_at, store_byte, cut_after, stores_out, made}
 use Rattle.claims_histories.specs.Visit.{StoresNext, Makes, SameOutside, Plays, writing, played, inserted}
 use Rattle.claims_attestation.proofs.Accepts.{Accepts, accepts}
+use Rattle.std.specs.Prelude.{Ok}
 
 -- ---- steps that pass
 
@@ -252,7 +252,7 @@ writes_nothing true true e f = f
 writes_nothing true false e f = e
 
 module _ (layout memory' : List ℕ) (t : ℕ → Step) (x : State) (n : ℕ) (h : Bytes layout)
-    (free : Free (layout_of layout) x) (a : Attests x.memory layout memory' Done)
+    (free : Free (layout_of layout) x) (a : Attests x.memory layout memory' (Ok tt))
     (makes : Makes (layout_of layout) x.memory t n) where
   abbrev l : Layout
   l = layout_of layout
@@ -353,7 +353,7 @@ allows l a (inl e) = simp (e, or-true)
 allows l a (inr e) = simp (e, or-true)
 
 -- m steps that are those of `played`
-module _ (memory layout memory' : List ℕ) (h : Bytes layout) (a : Attests memory layout memory' Done) (t : ℕ → Step)
+module _ (memory layout memory' : List ℕ) (h : Bytes layout) (a : Attests memory layout memory' (Ok tt)) (t : ℕ → Step)
     (m : ℕ) (most : m ≤ 64) (f : (i : ℕ) → i < m → t i ≡ played (layout_of layout) memory i) where
   abbrev ly : Layout
   ly = layout_of layout
@@ -398,7 +398,7 @@ module _ (memory layout memory' : List ℕ) (h : Bytes layout) (a : Attests memo
         };
   }
 
-pub played_plays : (memory layout memory' : List ℕ) → Bytes layout → Attests memory layout memory' Done → (t : ℕ → Step)
+pub played_plays : (memory layout memory' : List ℕ) → Bytes layout → Attests memory layout memory' (Ok tt) → (t : ℕ → Step)
     → ((i : ℕ) → i < 64 → t i ≡ played (layout_of layout) memory i) → Plays (layout_of layout) memory t 64
 played_plays memory layout memory' h a t f =
     let makes = played_makes memory layout memory' h a t 64 (omega arith) f (omega arith) in

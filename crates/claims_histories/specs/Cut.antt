@@ -1,10 +1,8 @@
 -- A visit that is cut: between the reply's last byte and the counter's first the board has answered and not counted.
 -- Definitions and claims; the proofs are in proofs/Cut.antt. Assumes nothing.
-use Rattle.std.specs.Prelude.{◌≡◌, ◌⊎◌, true, false, ◌||◌, List, ℕ, suc, ◌≤◌, ◌<◌, ltb}
+use Rattle.std.specs.Prelude.{◌≡◌, ◌⊎◌, true, false, ◌||◌, List, ℕ, suc, ◌≤◌, ◌<◌, ltb, Ok}
 use Rattle.notions.specs.Bytes.{Bytes}
 use Rattle.notions.specs.Choice.{pick}
-use Rattle.refusal.specs.declared.Answer.{Answer}
-use Rattle.refusal.specs.declared.Answer.TheVariants.{Done}
 use Rattle.layout.specs.declared.Layout.{Layout}
 use Rattle.layout.specs.Layouts.{layout_of}
 use Rattle.layout.specs.Regions.{within}
@@ -19,6 +17,7 @@ use Rattle.claims_monitor.specs.Outside.{kr_or_xs}
 use Rattle.claims_monitor.specs.Traces.{cause_at, resets_at}
 use Rattle.claims_attestation.specs.Demand2.{SameRequest}
 use Rattle.claims_histories.specs.Visit.{Free, VisitBegins, cut_after, made, Makes, played}
+use Rattle.refusal.specs.Answers.{Answer}
 
 -- ---- answered and not counted
 
@@ -30,23 +29,23 @@ pub record Uncounted (l : Layout) (memory y : List ℕ) : Type 0 where
 -- after 32 of the 64 stores of an accepted call it is so
 abbrev pub AnsweredUncounted : Type 0
 AnsweredUncounted =
-    (memory layout memory' : List ℕ) → Bytes layout → Attests memory layout memory' Done
+    (memory layout memory' : List ℕ) → Bytes layout → Attests memory layout memory' (Ok tt)
     → Uncounted (layout_of layout) memory (cut_after (layout_of layout) memory 32)
 
 -- and so in every visit that makes them, before a step with 32 of them behind it
 abbrev pub VisitUncounted : Type 0
 VisitUncounted =
     (layout memory' : List ℕ) (t : ℕ → Step) (x : State) (n i : ℕ) → Bytes layout → Free (layout_of layout) x
-    → Attests x.memory layout memory' Done → Makes (layout_of layout) x.memory t n → i ≤ n
+    → Attests x.memory layout memory' (Ok tt) → Makes (layout_of layout) x.memory t n → i ≤ n
     → made (layout_of layout) t i ≡ 32
     → Uncounted (layout_of layout) x.memory (before (layout_of layout) t x i).memory
 
 -- the next call of `attest` then accepts the same request, and answers it a second time
 abbrev pub AnsweredAgain : Type 0
 AnsweredAgain =
-    (memory layout memory' y y' : List ℕ) (r : Answer) → Bytes layout → Attests memory layout memory' Done
+    (memory layout memory' y y' : List ℕ) (r : Answer) → Bytes layout → Attests memory layout memory' (Ok tt)
     → Uncounted (layout_of layout) memory y → Attests y layout y' r
-    → (r ≡ Done) × (replied (layout_of layout) y' ≡ due (layout_of layout) memory)
+    → (r ≡ Ok tt) × (replied (layout_of layout) y' ≡ due (layout_of layout) memory)
 
 -- ---- cut anywhere
 
@@ -54,7 +53,7 @@ AnsweredAgain =
 -- it, so it may still be below the challenge, or above it
 abbrev pub CutRises : Type 0
 CutRises =
-    (memory layout memory' : List ℕ) (k : ℕ) → Bytes layout → Attests memory layout memory' Done → k ≤ 64
+    (memory layout memory' : List ℕ) (k : ℕ) → Bytes layout → Attests memory layout memory' (Ok tt) → k ≤ 64
     → (let l = layout_of layout in
     let y = cut_after l memory k in
     (counter l y ≡ counter l memory) ⊎ (greater (counter l y) (counter l memory) ≡ true))
@@ -62,7 +61,7 @@ CutRises =
 -- and after 32 or more the reply is there
 abbrev pub CutReplied : Type 0
 CutReplied =
-    (memory layout memory' : List ℕ) (k : ℕ) → Bytes layout → Attests memory layout memory' Done → 32 ≤ k → k ≤ 64
+    (memory layout memory' : List ℕ) (k : ℕ) → Bytes layout → Attests memory layout memory' (Ok tt) → 32 ≤ k → k ≤ 64
     → replied (layout_of layout) (cut_after (layout_of layout) memory k) ≡ due (layout_of layout) memory
 
 -- ---- what cuts a visit
@@ -84,7 +83,7 @@ CutResets =
 abbrev pub CutUncounted : Type 0
 CutUncounted =
     (layout memory' : List ℕ) (t : ℕ → Step) (x : State) (n : ℕ) → Bytes layout → Free (layout_of layout) x
-    → Attests x.memory layout memory' Done → (let l = layout_of layout in
+    → Attests x.memory layout memory' (Ok tt) → (let l = layout_of layout in
     Makes l x.memory t n → made l t n ≡ 32 → resets_at l t x n ≡ true
     → Uncounted l x.memory (before l t x (suc n)).memory)
 
@@ -95,7 +94,7 @@ played_to l memory k s i = pick (ltb i k) (played l memory i) s
 -- so for every accepted call there is a visit with k of the stores made, and with any step next
 abbrev pub CanBeCut : Type 0
 CanBeCut =
-    (memory layout memory' : List ℕ) (k : ℕ) (s : Step) → Bytes layout → Attests memory layout memory' Done
+    (memory layout memory' : List ℕ) (k : ℕ) (s : Step) → Bytes layout → Attests memory layout memory' (Ok tt)
     → 0 < k → k ≤ 64 → (let l = layout_of layout in
     let t = played_to l memory k s in
     Makes l memory t k × (made l t k ≡ k) × (t k ≡ s))

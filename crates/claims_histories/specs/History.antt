@@ -1,11 +1,9 @@
 -- The counter's history: what can happen to a board, and that no call of `attest` accepts an old request again.
 -- Definitions and claims; the proofs are in proofs/History.antt. What it rests on is in Limits.antt. Assumes nothing.
-use Rattle.std.specs.Prelude.{◌≡◌, ◌↔◌, ◌⊎◌, Bool, true, false, not, ◌&&◌, List, ℕ, suc, ◌≤◌, ◌<◌, length}
+use Rattle.std.specs.Prelude.{◌≡◌, ◌↔◌, ◌⊎◌, Bool, true, false, not, ◌&&◌, List, ℕ, suc, ◌≤◌, ◌<◌, length, Ok, Result}
 use Rattle.notions.specs.Bytes.{Bytes}
-use Rattle.refusal.specs.Answers.{refused_at}
-use Rattle.refusal.specs.Numbers.{challenge_not_greater}
-use Rattle.refusal.specs.declared.Answer.{Answer}
-use Rattle.refusal.specs.declared.Answer.TheVariants.{Done}
+use Rattle.refusal.specs.Answers.{Answer, refused_at}
+use Rattle.refusal.specs.declared.Reason.TheVariants.{ChallengeNotGreater}
 use Rattle.layout.specs.declared.Layout.{Layout}
 use Rattle.layout.specs.Layouts.{layout_of}
 use Rattle.layout.specs.Calls.{memory_bytes}
@@ -14,8 +12,6 @@ use Rattle.steps.specs.declared.Step.{Step}
 use Rattle.rules.specs.declared.Monitor.{Monitor}
 use Rattle.rules.specs.Rules.{code_writes_in}
 use Rattle.monitor.specs.Decisions.{resets}
-use Rattle.monitor.specs.declared.Stepped.{Stepped}
-use Rattle.monitor.specs.declared.Traced.{Traced}
 use Rattle.traces.specs.Traces.{count, steps}
 use Rattle.monitor.specs.Runs.{begin}
 use Rattle.monitor.specs.Promises.{Steps, Traces}
@@ -23,10 +19,10 @@ use Rattle.routine.specs.Strings.{greater, weight}
 use Rattle.routine.specs.Routine.{reply}
 use Rattle.board.specs.Memory.{bytes_of, key, counter, attested, challenge, replied}
 use Rattle.board.specs.Promises.{Attests}
-use Rattle.station.specs.declared.Verdict.{Verdict}
-use Rattle.station.specs.declared.Verdict.TheVariants.{Yes}
 use Rattle.station.specs.Promises.{ChecksReply}
 use Rattle.claims_monitor.specs.Traces.{remembers}
+use Rattle.refusal.specs.declared.Refusal.{Refusal}
+use Rattle.monitor.specs.declared.Totals.{Totals}
 
 -- ---- what can happen to a board
 
@@ -34,7 +30,7 @@ pub data Event : Type 0 where
   -- a call of `attest`, and its answer
   attest : Answer → Event
   -- a call of `trace` with these steps, and its answer
-  trace : List ℕ → Traced → Event
+  trace : List ℕ → Result Totals Refusal → Event
   -- anything else: power loss, the loading of forms
   change : Event
 
@@ -64,13 +60,13 @@ Happens layout change x y = Keeps (layout_of layout) x y
 -- a trace in which the attestation code leaves CTR alone keeps CR, KR and CTR
 abbrev pub TraceKeeps : Type 0
 TraceKeeps =
-    (memory layout b room memory' room' : List ℕ) (r : Traced) → Traces memory layout b room memory' room' r
+    (memory layout b room memory' room' : List ℕ) (r : Result Totals Refusal) → Traces memory layout b room memory' room' r
     → CounterLeft (layout_of layout) b memory → Keeps (layout_of layout) memory memory'
 
 -- so does a step judged by itself, which counts as any other event
 abbrev pub StepKeeps : Type 0
 StepKeeps =
-    (memory layout step : List ℕ) (m : Monitor) (room memory' room' : List ℕ) (r : Stepped)
+    (memory layout step : List ℕ) (m : Monitor) (room memory' room' : List ℕ) (r : Result Monitor Refusal)
     → Steps memory layout step m room memory' room' r → stores_counter (layout_of layout) m (steps step 0) ≡ false
     → Keeps (layout_of layout) memory memory'
 
@@ -93,7 +89,7 @@ counter_at h i = counter (layout_of h.layout) (h.memories i)
 -- event i is an accepted request, for the challenge c
 pub record Accepted (h : History) (i : ℕ) (c : List ℕ) : Type 0 where
   pub happened : i < h.n
-  pub event : h.events i ≡ attest Done
+  pub event : h.events i ≡ attest (Ok tt)
   pub request : c ≡ challenge (layout_of h.layout) (h.memories i)
 
 -- the counter never falls
@@ -131,7 +127,7 @@ LaterIsLarger =
 abbrev pub RefusesAsOld : History → List ℕ → ℕ → Type 0
 RefusesAsOld h c j =
     (r : Answer) → h.events j ≡ attest r → greater (challenge (layout_of h.layout) (h.memories j)) c ≡ false
-    → r ≡ refused_at challenge_not_greater 0
+    → r ≡ refused_at ChallengeNotGreater 0
 
 -- once c is accepted, so it is for ever: one request above all that were issued sets a board right whose counter fell
 -- back
@@ -142,7 +138,7 @@ Recovery =
 -- once a challenge is refused with 10, it is for ever
 abbrev pub RefusedForEver : Type 0
 RefusedForEver =
-    (h : History) (i : ℕ) → i < h.n → h.events i ≡ attest (refused_at challenge_not_greater 0)
+    (h : History) (i : ℕ) → i < h.n → h.events i ≡ attest (refused_at ChallengeNotGreater 0)
     → (j : ℕ) → i ≤ j → j < h.n → RefusesAsOld h (challenge (layout_of h.layout) (h.memories i)) j
 
 -- ---- what the station learns
@@ -156,23 +152,23 @@ KeyStays = (h : History) (i : ℕ) → i ≤ h.n → key_at h i ≡ key_at h 0
 
 -- the request c was accepted at event i, and the station, which has the board's key and expects a region, said v to the
 -- reply that the call left
-pub record CheckedReply (h : History) (i : ℕ) (c expected : List ℕ) (v : Verdict) : Type 0 where
+pub record CheckedReply (h : History) (i : ℕ) (c expected : List ℕ) (v : Result Bool Refusal) : Type 0 where
   pub accepted : Accepted h i c
   pub some : 1 ≤ length expected
   pub most : length expected ≤ 65536
   pub said : ChecksReply (key_at h 0) c (replied (layout_of h.layout) (h.memories (suc i))) expected v
 
 -- v is yes exactly if the routine's reply for the expected region is that for AR as it stood before event i
-abbrev pub Tells : History → ℕ → List ℕ → List ℕ → Verdict → Type 0
+abbrev pub Tells : History → ℕ → List ℕ → List ℕ → Result Bool Refusal → Type 0
 Tells h i c expected v =
-    (v ≡ Yes)
+    (v ≡ (Ok true))
     ↔ (reply (key_at h 0) c expected ≡ reply (key_at h 0) c (attested (layout_of h.layout) (h.memories i)))
 
 -- of two checks the one with the larger challenge is the later, and tells of AR as it stood then: so whoever sorts by
 -- challenge may believe the last
 abbrev pub LastTells : Type 0
 LastTells =
-    (h : History) (i j : ℕ) (c d x y : List ℕ) (v w : Verdict) → CheckedReply h i c x v → CheckedReply h j d y w
+    (h : History) (i j : ℕ) (c d x y : List ℕ) (v w : Result Bool Refusal) → CheckedReply h i c x v → CheckedReply h j d y w
     → greater d c ≡ true → (i < j) × Tells h j d y w
 
 -- ---- there are such histories

@@ -1,10 +1,8 @@
 -- What the counter's history rests on: the counter is kept, the layout stays, a visit runs to its end. Where one of
 -- these three fails, an old request is accepted again, or a check stands in the wrong order. Definitions and claims;
 -- the proofs are in proofs/Limits.antt. Assumes nothing.
-use Rattle.std.specs.Prelude.{◌≡◌, true, false, List, [], ◌∷◌, ◌++◌, ℕ, zero, suc, length, take, drop}
+use Rattle.std.specs.Prelude.{◌≡◌, true, false, List, [], ◌∷◌, ◌++◌, ℕ, zero, suc, length, take, drop, Ok}
 use Rattle.notions.specs.Bytes.{Bytes}
-use Rattle.refusal.specs.declared.Answer.{Answer}
-use Rattle.refusal.specs.declared.Answer.TheVariants.{Done}
 use Rattle.layout.specs.declared.Layout.{Layout}
 use Rattle.layout.specs.Regions.{within, size}
 use Rattle.layout.specs.Layouts.{layout_of, layout_check}
@@ -12,7 +10,6 @@ use Rattle.layout.specs.Calls.{memory_bytes}
 use Rattle.layout.specs.Good.{Good}
 use Rattle.steps.specs.declared.Step.{Step}
 use Rattle.traces.specs.Traces.{steps}
-use Rattle.monitor.specs.declared.Traced.TheVariants as traced
 use Rattle.monitor.specs.Runs.{begin}
 use Rattle.routine.specs.Strings.{greater}
 use Rattle.board.specs.Memory.{key, counter, attested, challenge, received, replied}
@@ -23,16 +20,17 @@ use Rattle.claims_attestation.specs.Demand2.{Request, Agrees}
 use Rattle.claims_histories.specs.History.{trace, Keeps, History, Accepted}
 use Rattle.claims_histories.specs.Cut.{played_to}
 use Rattle.claims_histories.specs.Script.{encoded}
+use Rattle.refusal.specs.Answers.{Answer}
 
 -- ---- the counter is kept
 
 -- where it falls back below the challenge of a request that was accepted, that request is accepted again
 abbrev pub FallenBack : Type 0
 FallenBack =
-    (layout x x' y y' : List ℕ) (r : Answer) → Attests x layout x' Done → Attests y layout y' r → length y ≡ length x
+    (layout x x' y y' : List ℕ) (r : Answer) → Attests x layout x' (Ok tt) → Attests y layout y' r → length y ≡ length x
     → (let l = layout_of layout in
     key l y ≡ key l x → challenge l y ≡ challenge l x → received l y ≡ received l x
-    → greater (challenge l y) (counter l y) ≡ true → r ≡ Done)
+    → greater (challenge l y) (counter l y) ≡ true → r ≡ Ok tt)
 
 -- ---- the layout stays
 
@@ -50,9 +48,9 @@ pub record AcceptedTwice (layout moved memory c : List ℕ) : Type 0 where
   pub twice : List ℕ
   pub posts : Keeps (layout_of layout) memory request
   pub asks : challenge (layout_of layout) request ≡ c
-  pub first : Attests request layout once Done
+  pub first : Attests request layout once (Ok tt)
   pub asks_again : challenge (layout_of moved) once ≡ c
-  pub second : Attests once moved twice Done
+  pub second : Attests once moved twice (Ok tt)
 
 -- so it is on every board, for every challenge above what stands in both places
 abbrev pub CounterMoved : Type 0
@@ -68,7 +66,7 @@ abbrev pub moved_bytes : List ℕ
 moved_bytes = take 16 page_bytes ++ (0x00 ∷ 0x09 ∷ 0x1f ∷ 0x09 ∷ []) ++ drop 20 page_bytes
 
 pub record PageMoved : Type 0 where
-  pub passes : layout_check moved_bytes ≡ Done
+  pub passes : layout_check moved_bytes ≡ Ok tt
   pub moved : Moved (layout_of page_bytes) (layout_of moved_bytes)
 
 -- so a board with the page's layout, moved so, accepts every such request twice
@@ -98,7 +96,7 @@ pub record OutOfOrder (layout memory c d altered : List ℕ) : Type 0 where
   pub asks : challenge (layout_of layout) (history.memories 1) ≡ c
   pub request : Request (layout_of layout) (history.memories 1)
   pub cut : history.events 1 ≡ trace (cut_trace (layout_of layout) (history.memories 1))
-      (traced.Judged (record { steps = 34; resets = 1 }))
+      (Ok (record { steps = 34; resets = 1 }))
   pub because :
       (let b = cut_trace (layout_of layout) (history.memories 1) in
       cause_at (layout_of layout) (steps b) (begin (history.memories 1)) 33 ≡ 4)

@@ -1,9 +1,8 @@
 -- A lawful visit to the attestation code passes the monitor, and attestation is such a visit.
 -- Definitions and claims; the proofs are in proofs/Visit.antt. Assumes nothing.
-use Rattle.std.specs.Prelude.{◌≡◌, ◌↔◌, Bool, true, false, ◌&&◌, List, ℕ, zero, suc, ◌+◌, ◌-◌, ◌≤◌, ◌<◌, eqb, ltb, length, get_or, set}
+use Rattle.std.specs.Prelude.{◌≡◌, ◌↔◌, Bool, true, false, ◌&&◌, List, ℕ, zero, suc, ◌+◌, ◌-◌, ◌≤◌, ◌<◌, eqb, ltb, length, get_or, set, Ok}
 use Rattle.notions.specs.Bytes.{Bytes}
 use Rattle.notions.specs.Choice.{pick}
-use Rattle.refusal.specs.declared.Answer.TheVariants.{Done}
 use Rattle.layout.specs.declared.Layout.{Layout}
 use Rattle.layout.specs.Layouts.{layout_of}
 use Rattle.layout.specs.Good.{Good}
@@ -66,7 +65,7 @@ cut_after l memory (suc k) = set (cut_after l memory k) (store_at l k) (store_by
 -- with all of them made it is the memory that `attest` leaves
 abbrev pub AllStores : Type 0
 AllStores =
-    (memory layout memory' : List ℕ) → Bytes layout → Attests memory layout memory' Done
+    (memory layout memory' : List ℕ) → Bytes layout → Attests memory layout memory' (Ok tt)
     → cut_after (layout_of layout) memory 64 ≡ memory'
 
 -- the step is a CPU store outside XS
@@ -99,7 +98,7 @@ pub record SameOutside (l : Layout) (x y : List ℕ) : Type 0 where
 abbrev pub CutVisit : Type 0
 CutVisit =
     (layout memory' : List ℕ) (t : ℕ → Step) (x : State) (n i : ℕ) → Bytes layout → Free (layout_of layout) x
-    → Attests x.memory layout memory' Done → Makes (layout_of layout) x.memory t n → i ≤ n
+    → Attests x.memory layout memory' (Ok tt) → Makes (layout_of layout) x.memory t n → i ≤ n
     → (let l = layout_of layout in
     SameOutside l (before l t x i).memory (cut_after l x.memory (made l t i)))
 
@@ -113,14 +112,14 @@ pub record Plays (l : Layout) (memory : List ℕ) (t : ℕ → Step) (n : ℕ) :
 abbrev pub VisitAttests : Type 0
 VisitAttests =
     (layout memory' : List ℕ) (t : ℕ → Step) (x : State) (n : ℕ) → Bytes layout → Free (layout_of layout) x
-    → Attests x.memory layout memory' Done → Plays (layout_of layout) x.memory t n
+    → Attests x.memory layout memory' (Ok tt) → Plays (layout_of layout) x.memory t n
     → SameOutside (layout_of layout) (before (layout_of layout) t x n).memory memory'
 
 -- and exactly that memory where none of its steps stores into XS
 abbrev pub ExactVisit : Type 0
 ExactVisit =
     (layout memory' : List ℕ) (t : ℕ → Step) (x : State) (n : ℕ) → Bytes layout → Free (layout_of layout) x
-    → Attests x.memory layout memory' Done → Plays (layout_of layout) x.memory t n
+    → Attests x.memory layout memory' (Ok tt) → Plays (layout_of layout) x.memory t n
     → ((i : ℕ) → i < n → cpu_writes_in (layout_of layout).xs (t i) ≡ false)
     → (before (layout_of layout) t x n).memory ≡ memory'
 
@@ -135,7 +134,7 @@ played l memory i = writing (pick (eqb i 63) l.cr.hi l.cr.lo) (store_at l i) (st
 
 abbrev pub CanBePlayed : Type 0
 CanBePlayed =
-    (memory layout memory' : List ℕ) → Bytes layout → Attests memory layout memory' Done
+    (memory layout memory' : List ℕ) → Bytes layout → Attests memory layout memory' (Ok tt)
     → Plays (layout_of layout) memory (played (layout_of layout) memory) 64
 
 -- a trace with one more step s, which is step k

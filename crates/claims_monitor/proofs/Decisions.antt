@@ -11,7 +11,6 @@ use lib.Seq.{get_or-take, get_or-drop}
 use borrow.Author.Tests.{ltb-true}
 use Rattle.notions.specs.Choice.{pick}
 use Rattle.notions.specs.First.{first}
-use Rattle.refusal.specs.declared.Answer.TheVariants.{Done}
 use Rattle.notions.proofs.Tests.{cases}
 use Rattle.notions.proofs.First.{first_found, first_least, none_found}
 use Rattle.layout.specs.declared.Layout.{Layout}
@@ -23,7 +22,6 @@ use Rattle.rules.specs.Rules.{rule15, broken, numbered, rule_numbers, cause}
 use Rattle.monitor.specs.Decisions.{next, decided_answer}
 use Rattle.rules.proofs.Laws.{held_away, quiet_passes, cause_lowest}
 use Rattle.monitor.specs.declared.Totals.{Totals}
-use Rattle.monitor.specs.declared.Traced.TheVariants as traced
 use Rattle.effects.specs.Effects.{bytes}
 use Rattle.traces.specs.Traces.{answer_size, count, steps}
 use Rattle.monitor.specs.Runs.{begin, before, resetting, room_after, totals}
@@ -34,6 +32,7 @@ use Rattle.monitor.proofs.Laws.{answer_at_lem}
 use Rattle.monitor.proofs.Checks.{traced_judged, stepped_judged}
 use Rattle.claims_monitor.specs.Decisions as claim
 use Rattle.claims_monitor.specs.Decisions.{Decides, Decided, monitor_before, causes_in}
+use Rattle.std.specs.Prelude.{Ok}
 
 -- ---- the cause is what the rules give, and nothing else is
 
@@ -81,14 +80,14 @@ one_reset : (c : ℕ) → ◌≡◌ {A = ℕ} (pick (eqb c 0) 0 1) (pick (not (e
 one_reset c = cases (eqb c 0) (λ e. simp e) (λ e. simp e)
 
 module _ (memory layout trace room memory' room' : List ℕ) (total : Totals)
-    (whole : Traces memory layout trace room memory' room' (traced.Judged total)) where
+    (whole : Traces memory layout trace room memory' room' (Ok total)) where
   abbrev l : Layout
   l = layout_of layout
 
   abbrev remembers : ℕ → Monitor
   remembers n = (before l (steps trace) (begin memory) n).monitor
 
-  done : (call_check memory layout (trace_check trace (length room)) ≡ Done) × (total ≡ totals l trace memory)
+  done : (call_check memory layout (trace_check trace (length room)) ≡ Ok tt) × (total ≡ totals l trace memory)
   done =
       traced_judged (call_check memory layout (trace_check trace (length room))) total (totals l trace memory)
       whole.answered

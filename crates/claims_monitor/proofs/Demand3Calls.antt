@@ -7,7 +7,6 @@ use native.Mathlib.Omega.{arith}
 use lib.Dec.{eqb}
 use lib.ListN.{length, get_or}
 use Rattle.notions.specs.Choice.{pick}
-use Rattle.refusal.specs.declared.Answer.{Answer}
 use Rattle.notions.proofs.First.{first_same}
 use Rattle.notions.proofs.Tests.{cases}
 use Rattle.layout.specs.declared.Layout.{Layout}
@@ -24,6 +23,7 @@ use Rattle.claims_monitor.specs.Demand3.{Agree, stores_scratch, with_data, blank
 use Rattle.claims_monitor.specs.Demand3.{Demand3Calls, Demand3Steps}
 use Rattle.conditions.proofs.Answers.{lent_either}
 use Rattle.claims_monitor.proofs.Demand3.{next_same, written_agree, answer_unseen, demand_3_runs}
+use Rattle.refusal.specs.Answers.{Answer}
 
 -- ---- the steps of two traces
 

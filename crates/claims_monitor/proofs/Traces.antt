@@ -12,9 +12,7 @@ use lib.Seq.{take-append-le, drop-append-le, drop-append-add, get_or-set_same, g
 use borrow.Author.Tests.{eqb-true, eqb-false, eq-eqb, ne_eqb, not-true, not-false}
 use Rattle.notions.specs.Choice.{pick}
 use Rattle.notions.specs.First.{first}
-use Rattle.refusal.specs.Answers.{told, after_call}
-use Rattle.refusal.specs.declared.Answer.{Answer}
-use Rattle.refusal.specs.declared.Answer.TheVariants.{Done, Refused}
+use Rattle.refusal.specs.Answers.{Answer, told, after_call}
 use Rattle.notions.proofs.Tests.{cases, clash, both}
 use Rattle.layout.specs.declared.Layout.{Layout}
 use Rattle.layout.specs.Layouts.{XS, MR, CTR, AR, layout_of, layout_check}
@@ -30,10 +28,7 @@ use Rattle.rules.specs.Rules.{writable, cause}
 use Rattle.monitor.specs.Decisions.{resets, next, decided_answer, decided_memory}
 use Rattle.rules.proofs.Laws.{held_away, rule_6}
 use Rattle.monitor.proofs.Decisions.{reset_cause, passes_cause, passes_only, inside_unheld}
-use Rattle.monitor.specs.declared.Stepped.{Stepped}
-use Rattle.monitor.specs.declared.Stepped.TheVariants as stepped
 use Rattle.monitor.specs.declared.Totals.{Totals}
-use Rattle.monitor.specs.declared.Traced.TheVariants as traced
 use Rattle.effects.specs.Effects.{cpu_exposed, dma_exposed, exposing, answer, bytes, lands, stored, storing, written}
 use Rattle.monitor.specs.Runs.{State, begin, turn, before, said, resetting}
 use Rattle.traces.specs.Traces.{step_size, answer_size, count, step_bytes, steps}
@@ -49,6 +44,8 @@ use Rattle.claims_monitor.specs.Traces as claim
 use Rattle.claims_monitor.specs.Traces.{cr_or_kr, ctr_or_xs, remembers, cause_at, resets_at, byte_at}
 use Rattle.claims_monitor.proofs.Runs.{in_parts}
 use Rattle.claims_monitor.proofs.Exposed.{cpu_outside, dma_outside}
+use Rattle.std.specs.Prelude.{Err, Ok, Result}
+use Rattle.refusal.specs.declared.Refusal.{Refusal}
 
 -- ---- memory
 
@@ -365,14 +362,14 @@ parts_of_bytes l b c x n k e =
 -- ---- a trace by one_step calls
 
 -- what a call answers whose check says so, and that then remembers m
-called : Answer → Monitor → Stepped
-called Done m = stepped.Judged m
-called (Refused q) m = stepped.Refused q
+called : Answer → Monitor → Result Monitor Refusal
+called (Ok _) m = Ok m
+called (Err q) m = Err q
 
 called_row : (a : Answer) (m : Monitor) → stepped_row (called a m) ≡ told a (remembered m)
 unfolding called
-called_row Done m = refl
-called_row (Refused q) m = refl
+called_row (Ok _) m = refl
+called_row (Err q) m = refl
 
 module _ (memory layout trace : List ℕ) (rooms : ℕ → List ℕ) where
   -- call i where x stands: its check, and what it decides if that refuses nothing
@@ -390,7 +387,7 @@ module _ (memory layout trace : List ℕ) (rooms : ℕ → List ℕ) where
     memory = after_call (checked i (lent i)) (decided i (lent i)).memory (lent i).memory;
   }
 
-  abbrev answers : ℕ → Stepped
+  abbrev answers : ℕ → Result Monitor Refusal
   answers i = called (checked i (lent i)) (decided i (lent i)).monitor
 
   abbrev rooms_left : ℕ → List ℕ
@@ -429,20 +426,20 @@ can_be_called memory layout trace rooms f = (
 )
 
 module _ (memory layout trace room memory' room' : List ℕ) (total : Totals)
-    (monitors : ℕ → Monitor) (memories rooms rooms' : ℕ → List ℕ) (r : ℕ → Stepped)
-    (whole : Traces memory layout trace room memory' room' (traced.Judged total))
+    (monitors : ℕ → Monitor) (memories rooms rooms' : ℕ → List ℕ) (r : ℕ → Result Monitor Refusal)
+    (whole : Traces memory layout trace room memory' room' (Ok total))
     (each : claim.Calls memory layout trace monitors memories rooms rooms' r) where
   -- the run that the one call judges
   abbrev stands : ℕ → State
   stands = before (layout_of layout) (steps trace) (begin memory)
 
-  whole_done : (call_check memory layout (trace_check trace (length room)) ≡ Done)
+  whole_done : (call_check memory layout (trace_check trace (length room)) ≡ Ok tt)
       × (total ≡ totals (layout_of layout) trace memory)
   whole_done =
       traced_judged (call_check memory layout (trace_check trace (length room))) total
       (totals (layout_of layout) trace memory) whole.answered
 
-  tests : (length memory ≡ memory_bytes) × (layout_check layout ≡ Done) × (trace_check trace (length room) ≡ Done)
+  tests : (length memory ≡ memory_bytes) × (layout_check layout ≡ Ok tt) × (trace_check trace (length room) ≡ Ok tt)
   tests = call_passed memory layout (trace_check trace (length room)) whole_done.0
 
   fitting : Fitting trace (length room)
@@ -450,16 +447,16 @@ module _ (memory layout trace room memory' room' : List ℕ) (total : Totals)
 
   -- a call from what stands before step i
   module _ (i : ℕ) (h : i < count trace) (m : monitors i ≡ (stands i).monitor) (b : memories i ≡ (stands i).memory) where
-    done : call_check (memories i) layout (step_check (step_bytes trace i) (length (rooms i))) ≡ Done
+    done : call_check (memories i) layout (step_check (step_bytes trace i) (length (rooms i))) ≡ Ok tt
     done =
         call_rest (memories i) layout _
         (ap length b ∙ length_kept (layout_of layout) (steps trace) (begin memory) i ∙ tests.0) tests.1
         ∙ (one_passes trace (length room) fitting i h (length (rooms i)) (each.fits i h))
 
-    judged : r i ≡ stepped.Judged (stands (suc i)).monitor
+    judged : r i ≡ Ok (stands (suc i)).monitor
     unfolding before
     judged =
-        stepped_row_settled (r i) (stepped.Judged (stands (suc i)).monitor)
+        stepped_row_settled (r i) (Ok (stands (suc i)).monitor)
         ((each.calls i h).answered ∙ simp done (simp (one_step trace (length room) fitting i h, m)))
 
     left : memories (suc i) ≡ (stands (suc i)).memory
@@ -490,7 +487,7 @@ module _ (memory layout trace room memory' room' : List ℕ) (total : Totals)
       record {
         judged = λ i h.
             let p = up_to i (omega arith) in
-            judged i h p.0 p.1 ∙ ap stepped.Judged (sym (up_to (suc i) h).0);
+            judged i h p.0 p.1 ∙ ap Ok (sym (up_to (suc i) h).0);
         left = (up_to (count trace) (omega arith)).1 ∙ sym (whole.memory_left ∙ simp whole_done.0);
         answered = λ i h.
             let p = up_to i (omega arith) in

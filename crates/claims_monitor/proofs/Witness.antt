@@ -7,7 +7,6 @@ use native.Mathlib.Omega.{arith}
 use lib.ListN.{length, get_or, take, drop, replicate, length-replicate}
 use borrow.Author.Tests.{le-leb}
 use Rattle.notions.specs.First.{first}
-use Rattle.refusal.specs.declared.Answer.TheVariants.{Done}
 use Rattle.layout.specs.declared.Region.{Region}
 use Rattle.layout.specs.Regions.{outside}
 use Rattle.layout.specs.Layouts.{layout_of, layout_check}
@@ -21,6 +20,7 @@ use Rattle.traces.specs.Traces.{steps}
 use Rattle.traces.specs.Traces.{trace_check}
 use Rattle.claims_monitor.specs.Demand3.{Agree, SameTrace}
 use Rattle.claims_monitor.specs.Witness.{layout, others, board, trace, room, answered, Call, Demand3Witness}
+use Rattle.std.specs.Prelude.{Ok}
 
 length_others : length others ≡ 65433
 unfolding others
@@ -29,15 +29,15 @@ length_others = length-replicate {A = ℕ} 65433 0
 pub length_board : (a b key mailbox : ℕ) → length (board a b key mailbox) ≡ 65536
 length_board a b key mailbox = omega (arith, length_others)
 
-pub layout_good : layout_check layout ≡ Done
+pub layout_good : layout_check layout ≡ Ok tt
 unfolding layout_check first
 layout_good = refl
 
-trace_good : (byte : ℕ) → trace_check (trace byte) (length room) ≡ Done
+trace_good : (byte : ℕ) → trace_check (trace byte) (length room) ≡ Ok tt
 unfolding trace_check first
 trace_good byte = refl
 
-checked : (a b key byte : ℕ) → call_check (board a b key 0) layout (trace_check (trace byte) (length room)) ≡ Done
+checked : (a b key byte : ℕ) → call_check (board a b key 0) layout (trace_check (trace byte) (length room)) ≡ Ok tt
 checked a b key byte = simp (length_board a b key 0, layout_good, trace_good byte)
 
 -- the run, whatever the bytes are

@@ -1,6 +1,6 @@
 -- Demand 2, the monitor's part: each reset decision is the one that the rules give for that step and the steps before
 -- it. Definitions and claims; the proofs are in proofs/Decisions.antt. Assumes nothing.
-use Rattle.std.specs.Prelude.{◌≡◌, true, false, not, List, ℕ, zero, suc, ◌+◌, ◌*◌, ◌<◌, eqb, get_or}
+use Rattle.std.specs.Prelude.{◌≡◌, true, false, not, List, ℕ, zero, suc, ◌+◌, ◌*◌, ◌<◌, eqb, get_or, Ok}
 use Rattle.notions.specs.Choice.{pick}
 use Rattle.layout.specs.declared.Layout.{Layout}
 use Rattle.layout.specs.Layouts.{layout_of}
@@ -8,8 +8,6 @@ use Rattle.steps.specs.declared.Step.{Step}
 use Rattle.rules.specs.declared.Monitor.{Monitor}
 use Rattle.rules.specs.Rules.{rule15, broken, numbered, rule_numbers, start}
 use Rattle.monitor.specs.Decisions.{next}
-use Rattle.monitor.specs.declared.Stepped.TheVariants as stepped
-use Rattle.monitor.specs.declared.Traced.TheVariants as traced
 use Rattle.monitor.specs.declared.Totals.{Totals}
 use Rattle.traces.specs.Traces.{answer_size, count, steps}
 use Rattle.monitor.specs.Promises.{Steps, Traces}
@@ -49,12 +47,12 @@ pub record Decided (layout trace room' : List ℕ) (total : Totals) : Type 0 whe
 abbrev pub ResetDecision : Type 0
 ResetDecision =
     (memory layout trace room memory' room' : List ℕ) (total : Totals)
-    → Traces memory layout trace room memory' room' (traced.Judged total) → Decided layout trace room' total
+    → Traces memory layout trace room memory' room' (Ok total) → Decided layout trace room' total
 
 -- the same of the call for one step, from whatever the monitor remembers, and of what it then remembers
 abbrev pub StepDecision : Type 0
 StepDecision =
     (memory layout step : List ℕ) (m : Monitor) (room memory' room' : List ℕ) (m' : Monitor)
-    → Steps memory layout step m room memory' room' (stepped.Judged m')
+    → Steps memory layout step m room memory' room' (Ok m')
     → Decides (layout_of layout) m (steps step 0) (get_or room' 0 0)
     × (m' ≡ record { held = not (eqb (get_or room' 0 0) 0); lastpc = (steps step 0).pc })

@@ -1,6 +1,6 @@
 -- Demand 3: what a run shows does not depend on the key, on the scratch, or on what the attestation code stores there.
 -- Definitions and claims; the proofs are in proofs/: Demand3, Demand3Calls and Exact. Assumes nothing.
-use Rattle.std.specs.Prelude.{◌≡◌, Bool, true, false, ◌&&◌, List, ℕ, ◌/◌, ◌%◌, ◌<◌, eqb, length, get_or}
+use Rattle.std.specs.Prelude.{◌≡◌, Bool, true, false, ◌&&◌, List, ℕ, ◌/◌, ◌%◌, ◌<◌, eqb, length, get_or, Result}
 use Rattle.notions.specs.Choice.{pick}
 use Rattle.layout.specs.declared.Layout.{Layout}
 use Rattle.layout.specs.Regions.{outside}
@@ -9,13 +9,13 @@ use Rattle.steps.specs.declared.Step.{Step}
 use Rattle.rules.specs.declared.Monitor.{Monitor}
 use Rattle.rules.specs.Rules.{code_writes_in, start}
 use Rattle.monitor.specs.Decisions.{decided_answer}
-use Rattle.monitor.specs.declared.Stepped.{Stepped}
-use Rattle.monitor.specs.declared.Traced.{Traced}
 use Rattle.traces.specs.Traces.{step_size, steps}
 use Rattle.monitor.specs.Runs.{State, begin, before, said, answers, resetting}
 use Rattle.monitor.specs.Promises.{Steps, Traces}
 use Rattle.claims_monitor.specs.Marked.{dma_reads}
 use Rattle.claims_monitor.specs.Traces.{remembers, cause_at}
+use Rattle.refusal.specs.declared.Refusal.{Refusal}
+use Rattle.monitor.specs.declared.Totals.{Totals}
 
 -- ---- what may differ
 
@@ -114,7 +114,7 @@ pub record SameCall {A : Type 0} (l : Layout) (r q : A) (room₁ room₂ x y : L
 -- two calls for a trace, with any bytes as layout: where the one is refused, the other is too, alike
 abbrev pub Demand3Calls : Type 0
 Demand3Calls =
-    (layout b c room x y x' y' room₁ room₂ : List ℕ) (r q : Traced)
+    (layout b c room x y x' y' room₁ room₂ : List ℕ) (r q : Result Totals Refusal)
     → Agree (layout_of layout) x y → SameTrace (layout_of layout) b c
     → Traces x layout b room x' room₁ r → Traces y layout c room y' room₂ q
     → SameCall (layout_of layout) r q room₁ room₂ x' y'
@@ -122,7 +122,7 @@ Demand3Calls =
 -- two calls for one step, from one monitor
 abbrev pub Demand3Steps : Type 0
 Demand3Steps =
-    (layout b c : List ℕ) (m : Monitor) (room x y x' y' room₁ room₂ : List ℕ) (r q : Stepped)
+    (layout b c : List ℕ) (m : Monitor) (room x y x' y' room₁ room₂ : List ℕ) (r q : Result Monitor Refusal)
     → Agree (layout_of layout) x y → SameTrace (layout_of layout) b c
     → Steps x layout b m room x' room₁ r → Steps y layout c m room y' room₂ q
     → SameCall (layout_of layout) r q room₁ room₂ x' y'

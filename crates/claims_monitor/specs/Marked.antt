@@ -1,6 +1,5 @@
 -- The rules page's table of marked steps: one table, and one claim over it. Assumes nothing.
-use Rattle.std.specs.Prelude.{◌≡◌, Bool, true, false, List, [], ◌∷◌, map, ℕ}
-use Rattle.refusal.specs.declared.Answer.TheVariants.{Done}
+use Rattle.std.specs.Prelude.{◌≡◌, Bool, true, false, List, [], ◌∷◌, map, ℕ, Ok}
 use Rattle.layout.specs.declared.Layout.{Layout}
 use Rattle.layout.specs.Layouts.{layout_of, layout_check}
 use Rattle.steps.specs.declared.Step.{Step}
@@ -27,7 +26,7 @@ page_bytes =
 
 -- the bytes are refused nothing, and they are this layout's
 pub record PageLayout : Type 0 where
-  pub passes : layout_check page_bytes ≡ Done
+  pub passes : layout_check page_bytes ≡ Ok tt
   pub decoded : layout_of page_bytes ≡ page
 
 -- ---- steps, in the table's words

@@ -1,5 +1,5 @@
 -- What the rules give for every trace, from any state, by the step's number. Assumes nothing.
-use Rattle.std.specs.Prelude.{◌≡◌, ◌≢◌, ◌↔◌, ◌⊎◌, Bool, true, false, ◌&&◌, ◌||◌, List, [], ◌∷◌, ◌++◌, ℕ, zero, suc, ◌+◌, ◌*◌, ◌≤◌, ◌<◌, eqb, length, get_or, take, drop}
+use Rattle.std.specs.Prelude.{◌≡◌, ◌≢◌, ◌↔◌, ◌⊎◌, Bool, true, false, ◌&&◌, ◌||◌, List, [], ◌∷◌, ◌++◌, ℕ, zero, suc, ◌+◌, ◌*◌, ◌≤◌, ◌<◌, eqb, length, get_or, take, drop, Ok, Result}
 use Rattle.notions.specs.Choice.{pick}
 use Rattle.layout.specs.declared.Layout.{Layout}
 use Rattle.layout.specs.Regions.{within, outside}
@@ -10,14 +10,12 @@ use Rattle.rules.specs.declared.Monitor.{Monitor}
 use Rattle.steps.specs.Steps.{bit}
 use Rattle.rules.specs.Rules.{writable, cause, start}
 use Rattle.monitor.specs.Decisions.{resets}
-use Rattle.monitor.specs.declared.Stepped.{Stepped}
-use Rattle.monitor.specs.declared.Stepped.TheVariants as stepped
-use Rattle.monitor.specs.declared.Traced.TheVariants as traced
 use Rattle.monitor.specs.declared.Totals.{Totals}
 use Rattle.effects.specs.Effects.{bytes}
 use Rattle.monitor.specs.Runs.{State, before, said, answers, resetting}
 use Rattle.traces.specs.Traces.{step_size, answer_size, count, step_bytes, steps}
 use Rattle.monitor.specs.Promises.{Steps, Traces}
+use Rattle.refusal.specs.declared.Refusal.{Refusal}
 
 -- ---- step n of a run of trace t from state x
 
@@ -226,20 +224,20 @@ PartsOfBytes =
 
 -- one_step calls for the steps of a trace, each from the monitor and the memory that the one before handed back
 pub record Calls (memory layout trace : List ℕ) (monitors : ℕ → Monitor) (memories rooms rooms' : ℕ → List ℕ)
-    (r : ℕ → Stepped)
+    (r : ℕ → Result Monitor Refusal)
     : Type 0 where
   pub starts : monitors 0 ≡ start
   pub lends : memories 0 ≡ memory
   pub fits : (i : ℕ) → i < count trace → answer_size ≤ length (rooms i)
   pub calls : (i : ℕ) → i < count trace
       → Steps (memories i) layout (step_bytes trace i) (monitors i) (rooms i) (memories (suc i)) (rooms' i) (r i)
-  pub hands : (i : ℕ) → i < count trace → (m : Monitor) → r i ≡ stepped.Judged m → monitors (suc i) ≡ m
+  pub hands : (i : ℕ) → i < count trace → (m : Monitor) → r i ≡ Ok m → monitors (suc i) ≡ m
 
 -- there are such calls for every memory, layout and trace, and for all rooms of at least four bytes
 abbrev pub CanBeCalled : Type 0
 CanBeCalled =
     (memory layout trace : List ℕ) (rooms : ℕ → List ℕ) → ((i : ℕ) → i < count trace → answer_size ≤ length (rooms i))
-    → (monitors : ℕ → Monitor) × (memories : ℕ → List ℕ) × (rooms' : ℕ → List ℕ) × (r : ℕ → Stepped)
+    → (monitors : ℕ → Monitor) × (memories : ℕ → List ℕ) × (rooms' : ℕ → List ℕ) × (r : ℕ → Result Monitor Refusal)
     × Calls memory layout trace monitors memories rooms rooms' r
 
 -- how many of the first n calls handed back a monitor that is held
@@ -249,10 +247,10 @@ held_after monitors (suc n) = held_after monitors n + pick (monitors (suc n)).he
 
 -- none of them is refused, and they leave the memory and the answers, and tell the resets, that the one call leaves and
 -- tells
-pub record Leaves (trace : List ℕ) (monitors : ℕ → Monitor) (memories rooms' : ℕ → List ℕ) (r : ℕ → Stepped)
+pub record Leaves (trace : List ℕ) (monitors : ℕ → Monitor) (memories rooms' : ℕ → List ℕ) (r : ℕ → Result Monitor Refusal)
     (memory' room' : List ℕ) (total : Totals)
     : Type 0 where
-  pub judged : (i : ℕ) → i < count trace → r i ≡ stepped.Judged (monitors (suc i))
+  pub judged : (i : ℕ) → i < count trace → r i ≡ Ok (monitors (suc i))
   pub left : memories (count trace) ≡ memory'
   pub answered : (i : ℕ) → i < count trace → take answer_size (rooms' i) ≡ take answer_size (drop (answer_size * i) room')
   pub counted : held_after monitors (count trace) ≡ total.resets
@@ -261,7 +259,7 @@ pub record Leaves (trace : List ℕ) (monitors : ℕ → Monitor) (memories room
 abbrev pub ByCalls : Type 0
 ByCalls =
     (memory layout trace room memory' room' : List ℕ) (total : Totals)
-    (monitors : ℕ → Monitor) (memories rooms rooms' : ℕ → List ℕ) (r : ℕ → Stepped)
-    → Traces memory layout trace room memory' room' (traced.Judged total)
+    (monitors : ℕ → Monitor) (memories rooms rooms' : ℕ → List ℕ) (r : ℕ → Result Monitor Refusal)
+    → Traces memory layout trace room memory' room' (Ok total)
     → Calls memory layout trace monitors memories rooms rooms' r
     → Leaves trace monitors memories rooms' r memory' room' total

@@ -1,8 +1,7 @@
 -- A witness that demand 3 is about something: two calls with different keys, scratch and bytes stored there, in which
 -- bytes are exposed, the mailbox is used and steps reset. proofs/Witness.antt has the proof. Assumes nothing.
-use Rattle.std.specs.Prelude.{◌≡◌, List, [], ◌∷◌, ◌++◌, ℕ, get_or, replicate}
+use Rattle.std.specs.Prelude.{◌≡◌, List, [], ◌∷◌, ◌++◌, ℕ, get_or, replicate, Ok}
 use Rattle.layout.specs.Layouts.{layout_of}
-use Rattle.monitor.specs.declared.Traced.TheVariants.{Judged}
 use Rattle.monitor.specs.Promises.{Traces}
 use Rattle.claims_monitor.specs.Demand3.{Agree, SameTrace}
 
@@ -69,7 +68,7 @@ room = replicate 33 0xee
 abbrev pub Call : ℕ → ℕ → ℕ → ℕ → Type 0
 Call a b key byte =
     Traces (board a b key 0) layout (trace byte) room
-    (board byte b key 0x5a) (answered ++ 0xee ∷ []) (Judged (record { steps = 8; resets = 3 }))
+    (board byte b key 0x5a) (answered ++ 0xee ∷ []) (Ok (record { steps = 8; resets = 3 }))
 
 -- both calls are as demand 3 has them, and both are judged: the same answers, and each board keeps its own key and
 -- scratch

@@ -10,7 +10,6 @@ use lib.Dec.{ltb}
 use lib.ListN.{length, drop}
 use denote.Ref.{Bor}
 use borrow.Author.Tests.{ltb-true, ltb-false}
-use Rattle.refusal.specs.declared.Answer.TheVariants as call
 use Rattle.notions.proofs.Tests.{cases}
 use Rattle.notions.proofs.First.{first_found, first_least}
 use Rattle.refusal.proofs.Order.{done_passed}
@@ -19,7 +18,6 @@ use Rattle.layout.specs.Calls.{call_check}
 use Rattle.layout.proofs.Calls.{call_passed}
 use Rattle.steps.specs.declared.Step.{Step}
 use Rattle.monitor.specs.declared.Totals.{Totals}
-use Rattle.monitor.specs.declared.Traced.TheVariants as traced
 use Rattle.monitor.specs.Runs.{State, begin, before, answers, resetting, totals}
 use Rattle.traces.specs.Traces.{answer_size, count, steps}
 use Rattle.traces.specs.Traces.{misfits, unclean, first_unclean, trace_check}
@@ -27,23 +25,23 @@ use Rattle.monitor.specs.Promises.{Traces}
 use Rattle.traces.proofs.Checks.{trace_passed}
 use Rattle.monitor.proofs.Checks.{traced_judged}
 use Rattle.monitor.proofs.Runs.{alike}
-use Rattle.reader.specs.declared.Read.{Read}
-use Rattle.reader.specs.declared.Read.TheVariants as read
 use Rattle.reader.specs.declared.StepReader.{StepReader}
 use Rattle.reader.specs.Reading.{read_at, place_after}
 use Rattle.reader.proofs.Settled.{read_row_settled}
 use Rattle.claims_reading.specs.Whole.{Reading, HandsOut, CanBeRead, ReadsWhole, JudgesWhatIsRead, ReadsToUnclean, ReadsNothing}
 use Rattle.reader.proofs.Laws.{read_nothing, read_end, read_unclean, read_step, IsStep}
+use Rattle.std.specs.Prelude.{None, Ok, Option, Result, Some}
+use Rattle.refusal.specs.declared.Refusal.{Refusal}
 
 -- ---- a reader that is read over and over
 
-module _ (trace : Bor (List ℕ)) (reader : ℕ → StepReader) (said : ℕ → Read) (g : Reading trace reader said) where
+module _ (trace : Bor (List ℕ)) (reader : ℕ → StepReader) (said : ℕ → Result (Option Step) Refusal) (g : Reading trace reader said) where
   -- before call k it stands at the place p
   record At (k p : ℕ) : Type 0 where
     pub holds : (reader k).trace ≡ trace
     pub place : (reader k).place ≡ p
 
-  module _ (k p : ℕ) (a : At k p) (r : Read) (e : read_at trace.now p ≡ r) where
+  module _ (k p : ℕ) (a : At k p) (r : Result (Option Step) Refusal) (e : read_at trace.now p ≡ r) where
     there : read_at (reader k).trace.now (reader k).place ≡ r
     there = (λ i. read_at (a.holds i).now (a.place i)) ∙ e
 
@@ -57,7 +55,7 @@ module _ (trace : Bor (List ℕ)) (reader : ℕ → StepReader) (said : ℕ → 
     }
 
   -- n steps stand one after another, and behind them what does not move the place
-  module _ (n : ℕ) (s : ℕ → Step) (e : Read) (f : (k : ℕ) → k < n → read_at trace.now k ≡ read.Step (s k))
+  module _ (n : ℕ) (s : ℕ → Step) (e : Result (Option Step) Refusal) (f : (k : ℕ) → k < n → read_at trace.now k ≡ Ok (Some (s k)))
       (d : read_at trace.now n ≡ e) (stays : place_after e n ≡ n) where
     within : (k : ℕ) → k ≤ n → At k k
     within zero h = record { holds = g.begins.holds; place = g.begins.at_first }
@@ -92,13 +90,13 @@ can_be_read trace =
       },
     )
 
-not_misfits : (b : List ℕ) (room : ℕ) → trace_check b room ≡ call.Done → misfits b ≡ false
+not_misfits : (b : List ℕ) (room : ℕ) → trace_check b room ≡ Ok tt → misfits b ≡ false
 unfolding trace_check
 not_misfits b room e = (done_passed (misfits b) _ _ e).0
 
 -- a trace that is judged has passed
-judged : (memory layout b room memory' room' : List ℕ) (t : Totals) → Traces memory layout b room memory' room' (traced.Judged t)
-    → (call_check memory layout (trace_check b (length room)) ≡ call.Done) × (t ≡ totals (layout_of layout) b memory)
+judged : (memory layout b room memory' room' : List ℕ) (t : Totals) → Traces memory layout b room memory' room' (Ok t)
+    → (call_check memory layout (trace_check b (length room)) ≡ Ok tt) × (t ≡ totals (layout_of layout) b memory)
 judged memory layout b room memory' room' t p = traced_judged (call_check memory layout (trace_check b (length room))) t _ p.answered
 
 pub reads_whole : ReadsWhole
@@ -107,24 +105,24 @@ reads_whole memory layout trace room memory' room' t p reader said g =
     let d = judged memory layout b room memory' room' t p in
     let c = (call_passed memory layout (trace_check b (length room)) d.0).2 in
     let m = not_misfits b (length room) c in
-    subst (λ (n : ℕ). HandsOut said n (steps b) read.End) (sym (ap (λ (u : Totals). u.steps) d.1))
-    (hands_out trace reader said g (count b) (steps b) read.End
+    subst (λ (n : ℕ). HandsOut said n (steps b) (Ok None)) (sym (ap (λ (u : Totals). u.steps) d.1))
+    (hands_out trace reader said g (count b) (steps b) (Ok None)
     (λ k h. read_step b k m h ((trace_passed b (length room) c).clean k h))
     (read_end b (count b) m (omega arith)) refl)
 
 -- two accounts of the same answers tell as many steps, and the same
-module _ (said : ℕ → Read) where
-  no_fewer : (n m : ℕ) (s u : ℕ → Step) → HandsOut said n s read.End → HandsOut said m u read.End → n < m → ⊥
+module _ (said : ℕ → Result (Option Step) Refusal) where
+  no_fewer : (n m : ℕ) (s u : ℕ → Step) → HandsOut said n s (Ok None) → HandsOut said m u (Ok None) → n < m → ⊥
   no_fewer n m s u a b h = subst IsStep (sym (b.handed n h) ∙ a.afterwards n (omega arith)) tt
 
-  module _ (n m : ℕ) (s u : ℕ → Step) (a : HandsOut said n s read.End) (b : HandsOut said m u read.End) where
+  module _ (n m : ℕ) (s u : ℕ → Step) (a : HandsOut said n s (Ok None)) (b : HandsOut said m u (Ok None)) where
     as_many : n ≡ m
     as_many =
         cases (ltb n m) (λ e. absurd (no_fewer n m s u a b (ltb-true n m e)))
         (λ e. cases (ltb m n) (λ f. absurd (no_fewer m n u s b a (ltb-true m n f))) (λ f. omega (arith, ltb-false n m e, ltb-false m n f)))
 
     same_step : (k : ℕ) → k < n → s k ≡ u k
-    same_step k h = let e : read.Step (s k) ≡ read.Step (u k) = sym (a.handed k h) ∙ b.handed k (omega (arith, as_many)) in cc
+    same_step k h = let e : Ok (Some (s k)) ≡ Ok (Some (u k)) = sym (a.handed k h) ∙ b.handed k (omega (arith, as_many)) in cc
 
 pub judges_what_is_read : JudgesWhatIsRead
 judges_what_is_read memory layout trace room memory' room' t p reader said g n s a =

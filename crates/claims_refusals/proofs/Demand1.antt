@@ -1,6 +1,6 @@
 -- Every public call answers as the rules page's table says: the claims of demand 1. Assumes nothing.
 use mathlib.Core.Path.{◌≡◌, refl, ap, sym, ◌∙◌}
-use mathlib.Core.Logic.{◌≢◌, ◌⊎◌}
+use mathlib.Core.Logic.{◌≢◌, ◌⊎◌, ◌↔◌}
 use mathlib.Core.Bool.{Bool, true, false, not, ◌&&◌, ◌||◌}
 use mathlib.Core.List.{List, [], ◌∷◌, ◌++◌}
 use Prim.Native.Nat.{ℕ, suc, ◌+◌, ◌*◌, ◌/◌, ◌%◌, ◌≤◌, ◌<◌}
@@ -12,35 +12,28 @@ use Rattle.notions.specs.Choice.{pick}
 use Rattle.notions.specs.First.{first}
 use Rattle.refusal.proofs.Settled.{row_settled}
 use Rattle.refusal.specs.Answers as A
-use Rattle.refusal.specs.Answers.{refused_if, refused_at, told}
-use Rattle.refusal.specs.Numbers.{trace_size, step_not_zero}
+use Rattle.refusal.specs.Answers.{Answer, refused_if, refused_at, told}
+use Rattle.refusal.specs.declared.Reason.TheVariants.{MemorySize, LayoutSize, RegionReversed, RegionSize, ZeroInCode}
+use Rattle.refusal.specs.declared.Reason.TheVariants.{RegionsShare, TraceSize, RoomSize, StepNotZero}
+use Rattle.refusal.specs.declared.Reason.TheVariants.{ChallengeNotGreater, TokenDiffers, LengthOrTotal}
+use Rattle.refusal.specs.declared.Reason.TheVariants.{Contents, Segment, FileSize}
 use Rattle.refusal.specs.declared.Refusal.{Refusal}
-use Rattle.refusal.specs.declared.Answer.{Answer}
-use Rattle.refusal.specs.declared.Answer.TheVariants as call
 use Rattle.notions.proofs.Tests.{clash}
 use Rattle.layout.specs.declared.Region.{Region}
 use Rattle.layout.specs.Regions.{within, reversed, size, shares}
 use Rattle.layout.specs.Layouts.{CR, KR, MR, CTR, AR, region, layout_of, wrong_size, collide, first_collision, layout_check}
-use Rattle.layout.specs.declared.Checked.{Checked}
-use Rattle.layout.specs.declared.Checked.TheVariants as checked
 use Rattle.layout.specs.Promises as layouts
 use Rattle.layout.proofs.Settled as settled
 use Rattle.layout.specs.Calls.{call_check}
 use Rattle.layout.proofs.Laws.{within_ends, ends_within, shares_exactly}
 use Rattle.steps.specs.declared.Step.{Step}
 use Rattle.monitor.specs.Decisions.{next}
-use Rattle.monitor.specs.declared.Stepped.{Stepped}
-use Rattle.monitor.specs.declared.Stepped.TheVariants as stepped
-use Rattle.monitor.specs.declared.Traced.{Traced}
-use Rattle.monitor.specs.declared.Traced.TheVariants as traced
 use Rattle.monitor.proofs.Settled.{traced_row_settled, stepped_row_settled}
 use Rattle.traces.specs.Traces.{count, steps}
 use Rattle.monitor.specs.Runs.{totals}
 use Rattle.traces.specs.Traces.{misfits, unclean, trace_check, step_check}
 use Rattle.monitor.specs.Promises.{totals_values, traced_row, remembered, stepped_row}
 use Rattle.traces.proofs.Laws.{step_byte}
-use Rattle.reader.specs.declared.Read.{Read}
-use Rattle.reader.specs.declared.Read.TheVariants as read
 use Rattle.reader.specs.Reading as reads
 use Rattle.reader.specs.Reading.{read_at, place_after, step_values, read_row}
 use Rattle.reader.proofs.Settled.{read_row_settled}
@@ -50,26 +43,29 @@ use Rattle.routine.specs.Routine.{token, reply, request_check}
 use Rattle.routine.proofs.Order.{same_equal, equal_same}
 use Rattle.board.specs.Memory.{key, counter, challenge, received}
 use Rattle.board.specs.Attestation.{request_check_in, attest_check}
-use Rattle.station.specs.declared.Verdict.{Verdict}
-use Rattle.station.specs.declared.Verdict.TheVariants as verdict
 use Rattle.station.specs.Promises as station
 use Rattle.station.proofs.Settled.{verdict_row_settled}
 use Rattle.file_contents.specs.Contents as contents
 use Rattle.file_contents.specs.Contents.{layout_entry, memory_entry, trace_entry, offset, begins, entry_fails, first_failing, file_check, body}
 use Rattle.file_segments.specs.Segments.{start_at, size_at, place, reached, segments, segment_fails, first_wrong, segment_check}
 use Rattle.runfile.specs.Promises.{bodies_check, judge_check, file_totals}
-use Rattle.conditions.specs.Conditions.{Condition, plain, first_of, Answers}
+use Rattle.conditions.specs.Conditions.{Condition, plain, first_of, RefusedAs, Answers}
+use Rattle.sha256.specs.Promises.{Gives}
 use Rattle.conditions.proofs.Tells.{Tells, tells_lt, tells_ge, tells_le, tells_eq, tells_ne, tells_not}
 use Rattle.conditions.proofs.Tells.{tells_or, tells_and, tells_lacks, tells_as, tells_flat, tells_some}
 use Rattle.conditions.proofs.Follows.{Once, once_none, once_placed, once_first}
 use Rattle.conditions.proofs.Follows.{Follows, follows_none, follows_placed, follows_plain, follows_first, follows_then}
-use Rattle.conditions.proofs.Answers.{Rows, answers_told, lent_kept}
+use Rattle.conditions.proofs.Answers.{Rows, answers_checked, answers_told, lent_kept}
 use Rattle.claims_refusals.specs.Demand1 as claim
 use Rattle.claims_refusals.specs.Demand1.{In, HasBytes, SharedAddress, WrongSize, NotZero, EntryFails}
 use Rattle.claims_refusals.specs.Demand1.{SegmentFails, segment_condition}
 use Rattle.claims_refusals.specs.Demand1.{memory_length, layout_conditions, trace_conditions, step_conditions}
 use Rattle.claims_refusals.specs.Demand1.{reader_conditions, request_conditions, length_conditions}
 use Rattle.claims_refusals.specs.Demand1.{attest_call, file_call}
+use Rattle.std.specs.Prelude.{Err, None, Ok, Option, Result, Some}
+use Rattle.layout.specs.declared.Layout.{Layout}
+use Rattle.rules.specs.declared.Monitor.{Monitor}
+use Rattle.monitor.specs.declared.Totals.{Totals}
 
 -- ---- 2 to 6: the layout
 
@@ -142,11 +138,11 @@ module _ (b : List ℕ) (forward : (k : ℕ) → k < 6 → reversed (region b k)
 follows_layout : (b : List ℕ) → Follows (layout_conditions b) (layout_check b)
 unfolding layout_check
 follows_layout b =
-    follows_plain 2 (tells_ne (length b) 24) (λ d.
-    follows_first 3 6 (λ k. reversed (region b k)) (λ k. tells_lt (region b k).hi (region b k).lo) (λ forward.
-    follows_first 4 6 (λ k. wrong_size k (region b k)) (tells_wrong b) (λ e.
-    follows_plain 5 (tells_in (region b CR) 0) (λ f.
-    follows_plain 6 (tells_shared b forward) (λ g. follows_none)))))
+    follows_plain LayoutSize (tells_ne (length b) 24) (λ d.
+    follows_first RegionReversed 6 (λ k. reversed (region b k)) (λ k. tells_lt (region b k).hi (region b k).lo) (λ forward.
+    follows_first RegionSize 6 (λ k. wrong_size k (region b k)) (tells_wrong b) (λ e.
+    follows_plain ZeroInCode (tells_in (region b CR) 0) (λ f.
+    follows_plain RegionsShare (tells_shared b forward) (λ g. follows_none)))))
 
 once_layout : (b : List ℕ) (ds : List Condition) → Once ds → Once (layout_conditions b ++ ds)
 once_layout b ds o = once_placed (once_first (once_first (once_placed (once_placed o))))
@@ -178,9 +174,9 @@ tells_length b = tells_or (tells_ne (length b % 12) 0) (tells_lt 4096 (count b))
 follows_trace : (b room : List ℕ) → Follows (trace_conditions b room) (trace_check b (length room))
 unfolding trace_check
 follows_trace b room =
-    follows_plain 7 (tells_length b) (λ d.
-    follows_plain 8 (tells_lt (length room) (4 * count b)) (λ e.
-    follows_first 9 (count b) (unclean b) (tells_not_zero b) (λ f. follows_none)))
+    follows_plain TraceSize (tells_length b) (λ d.
+    follows_plain RoomSize (tells_lt (length room) (4 * count b)) (λ e.
+    follows_first StepNotZero (count b) (unclean b) (tells_not_zero b) (λ f. follows_none)))
 
 once_trace : (b room : List ℕ) → Once (trace_conditions b room)
 once_trace b room = once_placed (once_placed (once_first once_none))
@@ -188,25 +184,25 @@ once_trace b room = once_placed (once_placed (once_first once_none))
 follows_step : (b room : List ℕ) → Follows (step_conditions b room) (step_check b (length room))
 unfolding step_check
 follows_step b room =
-    follows_plain 7 (tells_ne (length b) 12) (λ d.
-    follows_plain 8 (tells_lt (length room) 4) (λ e.
-    follows_plain 9 (tells_not_zero b 0) (λ f. follows_none)))
+    follows_plain TraceSize (tells_ne (length b) 12) (λ d.
+    follows_plain RoomSize (tells_lt (length room) 4) (λ e.
+    follows_plain StepNotZero (tells_not_zero b 0) (λ f. follows_none)))
 
 -- ---- 7 and 9: a reader at a place
 
 -- what it refuses, and what it tells if it does not: a step, or nothing at the end
 abbrev read_check : List ℕ → ℕ → Answer
 read_check b p =
-    pick (misfits b) (refused_at trace_size 0)
-    (pick (not (leb (count b) p) && unclean b p) (refused_at step_not_zero p) call.Done)
+    pick (misfits b) (refused_at TraceSize 0)
+    (pick (not (leb (count b) p) && unclean b p) (refused_at StepNotZero p) (Ok tt))
 
 abbrev read_values : List ℕ → ℕ → List ℕ
 read_values b p = pick (leb (count b) p) [] (step_values (steps b p))
 
 read_picked : (m e u : Bool) (p : ℕ) (s : Step)
-    → read_row (pick m (reads.refused_read trace_size 0)
-    (pick e read.End (pick u (reads.refused_read step_not_zero p) (read.Step s))))
-    ≡ told (pick m (refused_at trace_size 0) (pick (not e && u) (refused_at step_not_zero p) call.Done))
+    → read_row (pick m (reads.refused_read TraceSize 0)
+    (pick e (Ok None) (pick u (reads.refused_read StepNotZero p) (Ok (Some s)))))
+    ≡ told (pick m (refused_at TraceSize 0) (pick (not e && u) (refused_at StepNotZero p) (Ok tt)))
     (pick e [] (step_values s))
 read_picked true e u p s = refl
 read_picked false true u p s = refl
@@ -223,18 +219,18 @@ not_one false s = λ h. omega arith
 
 follows_reader : (b : List ℕ) (p : ℕ) → Follows (reader_conditions b p) (read_check b p)
 follows_reader b p =
-    follows_plain 7 (tells_length b) (λ d.
-    follows_placed 9 p
+    follows_plain TraceSize (tells_length b) (λ d.
+    follows_placed StepNotZero p
     (tells_and (tells_as (λ h. omega arith) (λ h. omega arith) (tells_not (tells_le (count b) p))) (tells_not_zero b p))
     (λ e. follows_none))
 
 -- a refusal leaves the place
-refused_place : (r : Read) (a : Answer) (q : Refusal) (v : List ℕ) (p : ℕ) → read_row r ≡ told a v → a ≡ call.Refused q
+refused_place : (r : Result (Option Step) Refusal) (a : Answer) (q : Refusal) (v : List ℕ) (p : ℕ) → read_row r ≡ told a v → a ≡ Err q
     → place_after r p ≡ p
-refused_place (read.Step s) a q v p e f =
+refused_place (Ok (Some s)) a q v p e f =
     absurd (let z : ◌≡◌ {A = ℕ} 11 2 = ap length (e ∙ ap (λ (x : Answer). told x v) f) in omega arith)
-refused_place read.End a q v p e f = refl
-refused_place (read.Refused r) a q v p e f = refl
+refused_place (Ok None) a q v p e f = refl
+refused_place (Err r) a q v p e f = refl
 
 -- ---- 10 and 11: a request
 
@@ -250,15 +246,15 @@ follows_request : (memory layout : List ℕ)
 unfolding request_check token
 follows_request memory layout =
     let l = layout_of layout in
-    follows_plain 10 (tells_false (greater (challenge l memory) (counter l memory))) (λ d.
-    follows_plain 11 (tells_differ (hmac (key l memory) (challenge l memory)) (received l memory)) (λ e. follows_none))
+    follows_plain ChallengeNotGreater (tells_false (greater (challenge l memory) (counter l memory))) (λ d.
+    follows_plain TokenDiffers (tells_differ (hmac (key l memory) (challenge l memory)) (received l memory)) (λ e. follows_none))
 
 -- ---- 1, and the order of a call
 
 follows_call : (memory layout : List ℕ) (ds : List Condition) (rest : Answer) → Follows ds rest
     → Follows (memory_length memory ∷ layout_conditions layout ++ ds) (call_check memory layout rest)
 follows_call memory layout ds rest f =
-    follows_plain 1 (tells_ne (length memory) 65536) (λ d. follows_then (follows_layout layout) f)
+    follows_plain MemorySize (tells_ne (length memory) 65536) (λ d. follows_then (follows_layout layout) f)
 
 once_call : (memory layout : List ℕ) (ds : List Condition) → Once ds
     → Once (memory_length memory ∷ layout_conditions layout ++ ds)
@@ -292,9 +288,9 @@ follows_file : (f : List ℕ)
     → Follows (plain 15 (49152 < length f) ∷ first_of 13 3 (EntryFails f) ∷ []) (file_check f)
 unfolding file_check first_failing
 follows_file f =
-    follows_plain 15 (tells_lt 49152 (length f)) (λ d.
+    follows_plain FileSize (tells_lt 49152 (length f)) (λ d.
     rw (first_any 2 (ltb (length f) 24) (entry_fails f))
-    (follows_first 13 3 (λ k. ltb (length f) 24 || entry_fails f k) (tells_entry f) (λ e. follows_none)))
+    (follows_first Contents 3 (λ k. ltb (length f) 24 || entry_fails f k) (tells_entry f) (λ e. follows_none)))
 
 -- ---- 14: the segments of a memory
 
@@ -313,7 +309,7 @@ tells_segment b k =
 
 follows_segments : (b : List ℕ) → Follows (segment_condition b ∷ []) (segment_check b)
 unfolding segment_check first_wrong
-follows_segments b = follows_first 14 (segments b) (segment_fails b) (tells_segment b) (λ e. follows_none)
+follows_segments b = follows_first Segment (segments b) (segment_fails b) (tells_segment b) (λ e. follows_none)
 
 follows_judge : (file memory room : List ℕ) → Follows (file_call file memory room) (judge_check file memory room)
 unfolding judge_check bodies_check
@@ -324,40 +320,40 @@ follows_judge file memory room =
 
 -- ---- 12: lengths
 
-follows_length : {t : Bool} {P : Type 0} → Tells t P → Follows (length_conditions P) (pick t (refused_at 12 0) call.Done)
-follows_length h = follows_plain 12 h (λ e. follows_none)
+follows_length : {t : Bool} {P : Type 0} → Tells t P → Follows (length_conditions P) (pick t (refused_at LengthOrTotal 0) (Ok tt))
+follows_length h = follows_plain LengthOrTotal h (λ e. follows_none)
 
 -- the same as rows
-told_length : (t : Bool) → refused_if t 12 ≡ told (pick t (refused_at 12 0) call.Done) []
+told_length : (t : Bool) → refused_if t LengthOrTotal ≡ told (pick t (refused_at LengthOrTotal 0) (Ok tt)) []
 told_length true = refl
 told_length false = refl
 
-refused_by : (t : Bool) (q : Refusal) → pick t (refused_at 12 0) call.Done ≡ call.Refused q → t ≡ true
+refused_by : (t : Bool) (q : Refusal) → pick t (refused_at LengthOrTotal 0) (Ok tt) ≡ Err q → t ≡ true
 refused_by true q e = refl
-refused_by false q e = absurd (let z : ◌≡◌ {A = ℕ} 0 1 = cc in omega arith)
+refused_by false q e = absurd (cc)
 
 -- ---- answers by their rows
 
 told_nothing : (a : Answer) → A.row a ≡ told a []
-told_nothing call.Done = refl
-told_nothing (call.Refused q) = refl
+told_nothing (Ok _) = refl
+told_nothing (Err q) = refl
 
-checked_rows : Rows Checked layouts.checked_row checked.Refused
+checked_rows : Rows Layout layouts.checked_row
 checked_rows = record { refuses = λ q. refl; settled = settled.checked_row_settled }
 
-traced_rows : Rows Traced traced_row traced.Refused
+traced_rows : Rows Totals traced_row
 traced_rows = record { refuses = λ q. refl; settled = traced_row_settled }
 
-stepped_rows : Rows Stepped stepped_row stepped.Refused
+stepped_rows : Rows Monitor stepped_row
 stepped_rows = record { refuses = λ q. refl; settled = stepped_row_settled }
 
-verdict_rows : Rows Verdict station.verdict_row verdict.Refused
+verdict_rows : Rows Bool station.verdict_row
 verdict_rows = record { refuses = λ q. refl; settled = verdict_row_settled }
 
-read_rows : Rows Read read_row read.Refused
+read_rows : Rows (Option Step) read_row
 read_rows = record { refuses = λ q. refl; settled = read_row_settled }
 
-call_rows : Rows Answer A.row call.Refused
+call_rows : Rows Unit A.row
 call_rows = record { refuses = λ q. refl; settled = row_settled }
 
 -- ---- the claims
@@ -416,20 +412,32 @@ check_answers k c given region r p =
     (one_of_two (same given (reply k c region))) p.answered (λ q e. tt)
 
 -- those whose answer tells nothing besides
-answers_by_length : {t : Bool} {P : Type 0} (r : Answer) (Kept : Type 0) → Tells t P → A.row r ≡ refused_if t 12
+answers_by_length : {t : Bool} {P : Type 0} (r : Answer) (Kept : Type 0) → Tells t P → A.row r ≡ refused_if t LengthOrTotal
     → (t ≡ true → Kept)
-    → Answers (length_conditions P) (λ n p. r ≡ refused_at n p) Kept
+    → Answers (length_conditions P) (RefusedAs r) Kept
 answers_by_length {t} r Kept h e kept =
     answers_told Kept [] r call_rows (once_placed once_none) (follows_length h) (λ d. omega arith) (e ∙ told_length t)
     (λ q d. kept (refused_by t q d))
 
+-- those that give 32 bytes refuse where their check does
+given_refuses : (t : Bool) (b : List ℕ) (r : Result (List ℕ) Refusal) → Gives t b r → (q : Refusal)
+    → (r ≡ Err q) ↔ (pick t (refused_at LengthOrTotal 0) (Ok tt) ≡ Err q)
+given_refuses true b r p q = (λ e. let z = sym p ∙ e in cc, λ e. p ∙ (let z = e in cc))
+given_refuses false b r p q = (λ e. absurd (let z = sym p ∙ e in cc), λ e. absurd (cc))
+
+answers_given : {t : Bool} {P : Type 0} (b : List ℕ) (r : Result (List ℕ) Refusal) → Tells t P → Gives t b r
+    → Answers (length_conditions P) (RefusedAs r) Unit
+answers_given {t} b r h g =
+    answers_checked _ Unit (once_placed once_none) (follows_length h)
+    (λ n p d. (d.0, (given_refuses t b r g d.0).0 d.1, d.2, d.3))
+    (λ n p d. (d.0, (given_refuses t b r g d.0).1 d.1, d.2, d.3))
+    (λ n p d. tt)
+
 pub token_answers : claim.TokenAnswers
-token_answers k c r p =
-    answers_by_length r.answer Unit
-    (tells_or (tells_ne (length k) 64) (tells_ne (length c) 32)) p.answered (λ e. tt)
+token_answers k c r p = answers_given _ r (tells_or (tells_ne (length k) 64) (tells_ne (length c) 32)) p
 
 pub hash_answers : claim.HashAnswers
-hash_answers m r p = answers_by_length r.answer Unit (tells_lt 131072 (length m)) p.answered (λ e. tt)
+hash_answers m r p = answers_given _ r (tells_lt 131072 (length m)) p
 
 pub take_in_answers : claim.TakeInAnswers
 take_in_answers s x r p =
@@ -437,12 +445,10 @@ take_in_answers s x r p =
     (λ e. let k : r.state ≡ s = p.handed ∙ simp e in cc)
 
 pub finish_answers : claim.FinishAnswers
-finish_answers s r p = answers_by_length r.answer Unit (tells_lt 131072 s.total) p.answered (λ e. tt)
+finish_answers s r p = answers_given _ r (tells_lt 131072 s.total) p
 
 pub mac_answers : claim.MacAnswers
-mac_answers k m r p =
-    answers_by_length r.answer Unit
-    (tells_or (tells_lt 65536 (length k)) (tells_lt 65536 (length m))) p.answered (λ e. tt)
+mac_answers k m r p = answers_given _ r (tells_or (tells_lt 65536 (length k)) (tells_lt 65536 (length m))) p
 
 pub lent_take_in_answers : claim.LentTakeInAnswers
 lent_take_in_answers s x s' r p = take_in_answers s x (record { answer = r; state = s' }) p

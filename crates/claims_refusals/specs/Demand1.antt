@@ -2,42 +2,34 @@
 -- of the rules page, in exactly the listed cases, and changes no lent byte. The page's table as lists of conditions, in
 -- its order and in numbers; then the claims. Of the tests that the checks make one stands here too: `greater`, which
 -- compares challenges. The proofs are in proofs/Demand1.antt. Assumes nothing.
-use Rattle.std.specs.Prelude.{◌≡◌, ◌≢◌, ◌⊎◌, false, List, [], ◌∷◌, ◌++◌, ℕ, ◌+◌, ◌*◌, ◌%◌, ◌≤◌, ◌<◌, length, get_or}
-use Rattle.refusal.specs.declared.Answer.{Answer}
-use Rattle.refusal.specs.declared.Answer.TheVariants as call
+use Rattle.std.specs.Prelude.{◌≡◌, ◌≢◌, ◌⊎◌, false, List, [], ◌∷◌, ◌++◌, ℕ, ◌+◌, ◌*◌, ◌%◌, ◌≤◌, ◌<◌, length, get_or, Bool, Option, Result}
 use Rattle.conditions.specs.Conditions.{Condition, placed, plain, first_of, RefusedAs, NothingLent, Answers}
 use Rattle.sha256.specs.declared.Sha.{Sha}
 use Rattle.sha256.specs.declared.Taken.{Taken}
-use Rattle.sha256.specs.declared.Bytes32.{Bytes32}
 use Rattle.sha256.specs.Promises.{TakesIn, Finishes, Hashes}
 use Rattle.lent_hash.specs.Promises as lent_hash
 use Rattle.hmac.specs.Hmac.{hmac}
 use Rattle.hmac.specs.Promises.{Macs}
 use Rattle.layout.specs.declared.Region.{Region}
-use Rattle.layout.specs.declared.Checked.{Checked}
-use Rattle.layout.specs.declared.Checked.TheVariants as checked
 use Rattle.layout.specs.Layouts.{CR, KR, MR, CTR, AR, region, layout_of}
 use Rattle.layout.specs.Promises.{Checks}
 use Rattle.rules.specs.declared.Monitor.{Monitor}
-use Rattle.monitor.specs.declared.Stepped.{Stepped}
-use Rattle.monitor.specs.declared.Stepped.TheVariants as stepped
-use Rattle.monitor.specs.declared.Traced.{Traced}
-use Rattle.monitor.specs.declared.Traced.TheVariants as traced
 use Rattle.traces.specs.Traces.{count}
 use Rattle.monitor.specs.Promises.{Steps, Traces}
-use Rattle.reader.specs.declared.Read.{Read}
-use Rattle.reader.specs.declared.Read.TheVariants as read
 use Rattle.reader.specs.declared.StepReader.{StepReader}
 use Rattle.reader.specs.Promises.{Reads}
 use Rattle.routine.specs.Strings.{greater}
 use Rattle.board.specs.Memory.{key, counter, challenge, received}
 use Rattle.board.specs.Promises.{Attests}
-use Rattle.station.specs.declared.Verdict.{Verdict}
-use Rattle.station.specs.declared.Verdict.TheVariants as verdict
 use Rattle.station.specs.Promises.{MakesToken, ChecksReply}
 use Rattle.file_contents.specs.Contents.{layout_entry, memory_entry, trace_entry, offset, size, begins, body}
 use Rattle.file_segments.specs.Segments.{start_at, size_at, place, reached, segments}
 use Rattle.runfile.specs.Promises.{Judges}
+use Rattle.refusal.specs.Answers.{Answer}
+use Rattle.layout.specs.declared.Layout.{Layout}
+use Rattle.refusal.specs.declared.Refusal.{Refusal}
+use Rattle.monitor.specs.declared.Totals.{Totals}
+use Rattle.steps.specs.declared.Step.{Step}
 
 -- ---- the page's table, from 1 to 15
 
@@ -163,81 +155,77 @@ BothKept memory room memory' room' = (memory' ≡ memory) × (room' ≡ room)
 
 abbrev pub LayoutAnswers : Type 0
 LayoutAnswers =
-    (layout : List ℕ) (r : Checked) → Checks layout r
-    → Answers (layout_conditions layout) (RefusedAs checked.Refused r) NothingLent
+    (layout : List ℕ) (r : Result Layout Refusal) → Checks layout r
+    → Answers (layout_conditions layout) (RefusedAs r) NothingLent
 
 abbrev pub TraceAnswers : Type 0
 TraceAnswers =
-    (memory layout trace room memory' room' : List ℕ) (r : Traced) → Traces memory layout trace room memory' room' r
-    → Answers (trace_call memory layout trace room) (RefusedAs traced.Refused r) (BothKept memory room memory' room')
+    (memory layout trace room memory' room' : List ℕ) (r : Result Totals Refusal) → Traces memory layout trace room memory' room' r
+    → Answers (trace_call memory layout trace room) (RefusedAs r) (BothKept memory room memory' room')
 
 abbrev pub StepAnswers : Type 0
 StepAnswers =
-    (memory layout step : List ℕ) (m : Monitor) (room memory' room' : List ℕ) (r : Stepped)
+    (memory layout step : List ℕ) (m : Monitor) (room memory' room' : List ℕ) (r : Result Monitor Refusal)
     → Steps memory layout step m room memory' room' r
-    → Answers (step_call memory layout step room) (RefusedAs stepped.Refused r) (BothKept memory room memory' room')
+    → Answers (step_call memory layout step room) (RefusedAs r) (BothKept memory room memory' room')
 
 abbrev pub AttestAnswers : Type 0
 AttestAnswers =
     (memory layout memory' : List ℕ) (r : Answer) → Attests memory layout memory' r
-    → Answers (attest_call memory layout) (RefusedAs call.Refused r) (memory' ≡ memory)
+    → Answers (attest_call memory layout) (RefusedAs r) (memory' ≡ memory)
 
 abbrev pub JudgeAnswers : Type 0
 JudgeAnswers =
-    (file memory room memory' room' : List ℕ) (r : Traced) → Judges file memory room memory' room' r
-    → Answers (file_call file memory room) (RefusedAs traced.Refused r) (BothKept memory room memory' room')
-
--- the answer beside 32 bytes refuses
-abbrev pub DigestRefused : Bytes32 → ℕ → ℕ → Type 0
-DigestRefused r = RefusedAs call.Refused r.answer
+    (file memory room memory' room' : List ℕ) (r : Result Totals Refusal) → Judges file memory room memory' room' r
+    → Answers (file_call file memory room) (RefusedAs r) (BothKept memory room memory' room')
 
 abbrev pub TokenAnswers : Type 0
 TokenAnswers =
-    (k challenge : List ℕ) (r : Bytes32) → MakesToken k challenge r
-    → Answers (length_conditions ((length k ≢ 64) ⊎ (length challenge ≢ 32))) (DigestRefused r) NothingLent
+    (k challenge : List ℕ) (r : Result (List ℕ) Refusal) → MakesToken k challenge r
+    → Answers (length_conditions ((length k ≢ 64) ⊎ (length challenge ≢ 32))) (RefusedAs r) NothingLent
 
 abbrev pub CheckAnswers : Type 0
 CheckAnswers =
-    (k challenge given region : List ℕ) (r : Verdict) → ChecksReply k challenge given region r
+    (k challenge given region : List ℕ) (r : Result Bool Refusal) → ChecksReply k challenge given region r
     → Answers
     (length_conditions
     ((length k ≢ 64) ⊎ (length challenge ≢ 32) ⊎ (length given ≢ 32) ⊎ (length region ≡ 0) ⊎ (65536 < length region)))
-    (RefusedAs verdict.Refused r) NothingLent
+    (RefusedAs r) NothingLent
 
 abbrev pub HashAnswers : Type 0
 HashAnswers =
-    (m : List ℕ) (r : Bytes32) → Hashes m r
-    → Answers (length_conditions (131072 < length m)) (DigestRefused r) NothingLent
+    (m : List ℕ) (r : Result (List ℕ) Refusal) → Hashes m r
+    → Answers (length_conditions (131072 < length m)) (RefusedAs r) NothingLent
 
 -- a state that is refused is handed back as it was
 abbrev pub TakeInAnswers : Type 0
 TakeInAnswers =
     (s : Sha) (x : List ℕ) (r : Taken) → TakesIn s x r
     → Answers (length_conditions (131072 < s.total + length x))
-    (RefusedAs call.Refused r.answer) (r.state ≡ s)
+    (RefusedAs r.answer) (r.state ≡ s)
 
 abbrev pub FinishAnswers : Type 0
 FinishAnswers =
-    (s : Sha) (r : Bytes32) → Finishes s r → Answers (length_conditions (131072 < s.total)) (DigestRefused r) NothingLent
+    (s : Sha) (r : Result (List ℕ) Refusal) → Finishes s r → Answers (length_conditions (131072 < s.total)) (RefusedAs r) NothingLent
 
 abbrev pub MacAnswers : Type 0
 MacAnswers =
-    (k m : List ℕ) (r : Bytes32) → Macs k m r
-    → Answers (length_conditions ((65536 < length k) ⊎ (65536 < length m))) (DigestRefused r) NothingLent
+    (k m : List ℕ) (r : Result (List ℕ) Refusal) → Macs k m r
+    → Answers (length_conditions ((65536 < length k) ⊎ (65536 < length m))) (RefusedAs r) NothingLent
 
 -- an object that is lent and refused is as it was, and one that is finished is lent to be read only
 abbrev pub LentTakeInAnswers : Type 0
 LentTakeInAnswers =
     (s : Sha) (x : List ℕ) (s' : Sha) (r : Answer) → lent_hash.TakesIn s x s' r
-    → Answers (length_conditions (131072 < s.total + length x)) (RefusedAs call.Refused r) (s' ≡ s)
+    → Answers (length_conditions (131072 < s.total + length x)) (RefusedAs r) (s' ≡ s)
 
 abbrev pub LentFinishAnswers : Type 0
 LentFinishAnswers =
-    (s : Sha) (r : Bytes32) → lent_hash.Finishes s r
-    → Answers (length_conditions (131072 < s.total)) (DigestRefused r) NothingLent
+    (s : Sha) (r : Result (List ℕ) Refusal) → lent_hash.Finishes s r
+    → Answers (length_conditions (131072 < s.total)) (RefusedAs r) NothingLent
 
 -- a reader that refuses holds the same trace and stays at its place
 abbrev pub ReaderAnswers : Type 0
 ReaderAnswers =
-    (h h' : StepReader) (r : Read) → Reads h h' r
-    → Answers (reader_conditions h.trace.now h.place) (RefusedAs read.Refused r) (h' ≡ h)
+    (h h' : StepReader) (r : Result (Option Step) Refusal) → Reads h h' r
+    → Answers (reader_conditions h.trace.now h.place) (RefusedAs r) (h' ≡ h)

@@ -1,6 +1,6 @@
 -- A check follows a list of conditions: it refuses with the first that applies, and passes if none does.
 -- Assumes nothing.
-use mathlib.Core.Path.{◌≡◌, refl, sym, ap, subst, ◌∙◌}
+use mathlib.Core.Path.{◌≡◌, refl, sym, subst, ◌∙◌}
 use mathlib.Core.Logic.{inl, inr}
 use mathlib.Core.Bool.{Bool, true, false}
 use mathlib.Core.List.{List, [], ◌∷◌, ◌++◌}
@@ -10,10 +10,11 @@ use lib.Dec.{ltb}
 use borrow.Author.Tests.{ltb-true, ltb-false}
 use Rattle.notions.specs.Choice.{pick}
 use Rattle.notions.specs.First.{first}
-use Rattle.refusal.specs.Answers.{refused_at, and_then}
+use Rattle.std.specs.Prelude.{Ok, Err}
+use Rattle.refusal.specs.Numbers.{number}
+use Rattle.refusal.specs.Answers.{Answer, refused_at, and_then}
+use Rattle.refusal.specs.declared.Reason.{Reason}
 use Rattle.refusal.specs.declared.Refusal.{Refusal}
-use Rattle.refusal.specs.declared.Answer.{Answer}
-use Rattle.refusal.specs.declared.Answer.TheVariants.{Done, Refused}
 use Rattle.notions.proofs.Tests.{cases}
 use Rattle.notions.proofs.First.{first_found, first_least, none_found}
 use Rattle.conditions.specs.Conditions.{Condition, placed, plain, first_of, Absent, First, None}
@@ -58,53 +59,48 @@ none_first (c ∷ cs) n p x (inr y) = none_first cs n p x.1 y.1
 
 -- the check a refuses with the first that applies, and passes if none does
 pub record Follows (cs : List Condition) (a : Answer) : Type 0 where
-  pub none : a ≡ Done → None cs
-  pub first : (n p : ℕ) → a ≡ refused_at n p → First cs n p
+  pub none : a ≡ Ok tt → None cs
+  pub first : (q : Refusal) → a ≡ Err q → First cs (number q.reason) q.place
 
-pub follows_none : Follows [] Done
-follows_none = record { none = λ e. tt; first = λ n p e. let z : ◌≡◌ {A = ℕ} 0 1 = cc in omega arith }
-
--- one refusal has one number and one place
-same_refusal : (n m p q : ℕ) → refused_at n p ≡ refused_at m q → (n ≡ m) × (p ≡ q)
-same_refusal n m p q e =
-    let r : Refusal = record { number = n; place = p } in
-    let s : Refusal = record { number = m; place = q } in
-    let f : r ≡ s = cc in
-    (ap (λ (x : Refusal). x.number) f, ap (λ (x : Refusal). x.place) f)
+pub follows_none : Follows [] (Ok tt)
+follows_none = record { none = λ e. tt; first = λ q e. absurd (cc) }
 
 -- the first of the list refuses at p
-follows_here : (c : Condition) (cs : List Condition) (p : ℕ) → c.At p → Follows (c ∷ cs) (refused_at c.number p)
-follows_here c cs p h = record {
-  none = λ e. absurd (let z : ◌≡◌ {A = ℕ} 0 1 = cc in omega arith);
-  first = λ n q e. let s = same_refusal c.number n p q e in inl (sym s.0, subst c.At s.1 h);
+follows_here : (r : Reason) (c : Condition) (cs : List Condition) (p : ℕ) → number r ≡ c.number → c.At p
+    → Follows (c ∷ cs) (refused_at r p)
+follows_here r c cs p e h = record {
+  none = λ f. absurd (cc);
+  first = λ q f.
+      let s : ◌≡◌ {A = Refusal} (record { reason = r; place = p }) q = cc in
+      subst (λ (x : Refusal). First (c ∷ cs) (number x.reason) x.place) s (inl (e, h));
 }
 
 follows_later : (c : Condition) (cs : List Condition) (a : Answer) → Absent c → Follows cs a → Follows (c ∷ cs) a
-follows_later c cs a h f = record { none = λ e. (h, f.none e); first = λ n p e. inr (h, f.first n p e) }
+follows_later c cs a h f = record { none = λ e. (h, f.none e); first = λ q e. inr (h, f.first q e) }
 
-pub follows_placed : (n k : ℕ) {t : Bool} {P : Type 0} {cs : List Condition} {rest : Answer}
-    → Tells t P → (t ≡ false → Follows cs rest) → Follows (placed n k P ∷ cs) (pick t (refused_at n k) rest)
-follows_placed n k {t = true} {P} {cs} h f = follows_here (placed n k P) cs k (refl, h.yes refl)
-follows_placed n k {t = false} {P} {cs} {rest} h f =
-    follows_later (placed n k P) cs rest (λ p x. h.no refl x.1) (f refl)
+pub follows_placed : (r : Reason) (k : ℕ) {t : Bool} {P : Type 0} {cs : List Condition} {rest : Answer}
+    → Tells t P → (t ≡ false → Follows cs rest) → Follows (placed (number r) k P ∷ cs) (pick t (refused_at r k) rest)
+follows_placed r k {t = true} {P} {cs} h f = follows_here r (placed (number r) k P) cs k refl (refl, h.yes refl)
+follows_placed r k {t = false} {P} {cs} {rest} h f =
+    follows_later (placed (number r) k P) cs rest (λ p x. h.no refl x.1) (f refl)
 
 -- where the page names no place, the check tells 0
-pub follows_plain : (n : ℕ) {t : Bool} {P : Type 0} {cs : List Condition} {rest : Answer}
-    → Tells t P → (t ≡ false → Follows cs rest) → Follows (plain n P ∷ cs) (pick t (refused_at n 0) rest)
-follows_plain n h f = follows_placed n 0 h f
+pub follows_plain : (r : Reason) {t : Bool} {P : Type 0} {cs : List Condition} {rest : Answer}
+    → Tells t P → (t ≡ false → Follows cs rest) → Follows (plain (number r) P ∷ cs) (pick t (refused_at r 0) rest)
+follows_plain r h f = follows_placed r 0 h f
 
-follows_place : (n m k : ℕ) (u : Bool) (P : ℕ → Type 0) (cs : List Condition) (rest : Answer)
-    → (u ≡ true → (first_of n m P).At k) → (u ≡ false → Absent (first_of n m P)) → (u ≡ false → Follows cs rest)
-    → Follows (first_of n m P ∷ cs) (pick u (refused_at n k) rest)
-follows_place n m k true P cs rest h g f = follows_here (first_of n m P) cs k (h refl)
-follows_place n m k false P cs rest h g f = follows_later (first_of n m P) cs rest (g refl) (f refl)
+follows_place : (r : Reason) (m k : ℕ) (u : Bool) (P : ℕ → Type 0) (cs : List Condition) (rest : Answer)
+    → (u ≡ true → (first_of (number r) m P).At k) → (u ≡ false → Absent (first_of (number r) m P))
+    → (u ≡ false → Follows cs rest) → Follows (first_of (number r) m P ∷ cs) (pick u (refused_at r k) rest)
+follows_place r m k true P cs rest h g f = follows_here r (first_of (number r) m P) cs k refl (h refl)
+follows_place r m k false P cs rest h g f = follows_later (first_of (number r) m P) cs rest (g refl) (f refl)
 
-pub follows_first : (n m : ℕ) (t : ℕ → Bool) {P : ℕ → Type 0} {cs : List Condition} {rest : Answer}
+pub follows_first : (r : Reason) (m : ℕ) (t : ℕ → Bool) {P : ℕ → Type 0} {cs : List Condition} {rest : Answer}
     → ((k : ℕ) → Tells (t k) (P k)) → (((k : ℕ) → k < m → t k ≡ false) → Follows cs rest)
-    → Follows (first_of n m P ∷ cs) (pick (ltb (first m t) m) (refused_at n (first m t)) rest)
-follows_first n m t {P} {cs} {rest} h f =
+    → Follows (first_of (number r) m P ∷ cs) (pick (ltb (first m t) m) (refused_at r (first m t)) rest)
+follows_first r m t {P} {cs} {rest} h f =
     let k : ℕ = first m t in
-    follows_place n m k (ltb k m) P cs rest
+    follows_place r m k (ltb k m) P cs rest
     (λ e. let l = ltb-true k m e in (l, (h k).yes (first_found m t l), λ j i. (h j).no (first_least m t j i)))
     (λ e p x. (h p).no (none_found m t e p x.0) x.1)
     (λ e. f (none_found m t e))
@@ -125,11 +121,11 @@ first_right (c ∷ cs) ds n p x y = inr (x.0, first_right cs ds n p x.1 y)
 -- one check and then another: one list and then another
 pub follows_then : {cs ds : List Condition} {a b : Answer} → Follows cs a → Follows ds b
     → Follows (cs ++ ds) (and_then a b)
-follows_then {cs} {ds} {a = Done} f g = record {
+follows_then {cs} {ds} {a = Ok u} f g = record {
   none = λ e. none_both cs ds (f.none refl) (g.none e);
-  first = λ n p e. first_right cs ds n p (f.none refl) (g.first n p e);
+  first = λ q e. first_right cs ds (number q.reason) q.place (f.none refl) (g.first q e);
 }
-follows_then {cs} {ds} {a = Refused r} f g = record {
-  none = λ e. absurd (let z : ◌≡◌ {A = ℕ} 0 1 = cc in omega arith);
-  first = λ n p e. first_left cs ds n p (f.first n p e);
+follows_then {cs} {ds} {a = Err r} f g = record {
+  none = λ e. absurd (cc);
+  first = λ q e. first_left cs ds (number q.reason) q.place (f.first q e);
 }

@@ -1,7 +1,8 @@
 -- A call's refusals as a list of conditions, in the order in which they are tried: the refusal is the first that applies.
 -- No call and no check is named here; each call's own conditions stand with the claims about it. Assumes nothing.
-use Rattle.std.specs.Prelude.{◌≡◌, ◌↔◌, ◌⊎◌, List, [], ◌∷◌, ℕ, ◌<◌}
+use Rattle.std.specs.Prelude.{◌≡◌, ◌↔◌, ◌⊎◌, List, [], ◌∷◌, ℕ, ◌<◌, Result, Err}
 use Rattle.refusal.specs.declared.Refusal.{Refusal}
+use Rattle.refusal.specs.Numbers.{number}
 
 -- a line of the page's table: its number, and that it applies at a place
 pub record Condition : Type 1 where
@@ -34,9 +35,9 @@ abbrev pub None : List Condition → Type 0
 None [] = Unit {0}
 None (c ∷ cs) = Absent c × None cs
 
--- the answer r tells refusal n at p; `refuse` makes a refusal an answer of r's kind
-abbrev pub RefusedAs : {R : Type 0} → (Refusal → R) → R → ℕ → ℕ → Type 0
-RefusedAs refuse r n p = r ≡ refuse (record { number = n; place = p })
+-- the answer r tells refusal n at p
+abbrev pub RefusedAs : {T : Type 0} → Result T Refusal → ℕ → ℕ → Type 0
+RefusedAs r n p = (q : Refusal) × (r ≡ Err q) × (number q.reason ≡ n) × (q.place ≡ p)
 
 -- of a call that is lent nothing to write there is nothing to keep
 abbrev pub NothingLent : Type 0

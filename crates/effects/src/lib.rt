@@ -9,7 +9,11 @@ ghost use Rattle.effects.specs.Promises as P;
 use layout::Layout;
 use steps::Step;
 
-// The four answer bytes of a step; bit 0 of `exposed` stands for the CPU's byte, bit 1 for the DMA's.
+// Early returns, tests as numbers and zeros are written out below: with `get`, `u8::from` and one place for an answer that hides
+// all, the judging of a trace took 1.2 to 2.2 times as long.
+
+// The four answer bytes of a step; bit 0 of `exposed` stands for the CPU's byte, bit 1 for the DMA's. Bytes, and no `Option`: the
+// promise `Acts` and the answers of a trace are of the four as they stand.
 #[derive(Clone, Copy)]
 pub struct StepAnswer {
     pub cause: u8,

@@ -1,19 +1,18 @@
 -- The entries of a run file: the search for the first that fails, and what is known of a file in which none does.
 -- Assumes nothing.
-use mathlib.Core.Path.{◌≡◌, refl, sym, ap, ◌∙◌}
-use mathlib.Core.Bool.{Bool, true, false, not, ◌&&◌, ◌||◌}
+use Rattle.std.specs.Prelude.{Ok}
+use mathlib.Core.Path.{◌≡◌, sym, ap, ◌∙◌}
+use mathlib.Core.Bool.{true, false, not, ◌&&◌, ◌||◌}
 use mathlib.Core.List.{List}
 use Prim.Native.Nat.{ℕ, ◌+◌, ◌-◌, ◌≤◌, ◌<◌}
-use native.Mathlib.Numerals.{add-one}
 use native.Mathlib.Omega.{arith}
 use lib.Dec.{eqb, ltb}
 use lib.ListN.{length, take, drop}
-use borrow.Author.Tests.{ltb-true, ltb-false, lt-ltb, le-ltb, eqb-true, not-false}
+use borrow.Author.Tests.{ltb-true, ltb-false, lt-ltb, eqb-true, not-false}
 use Rattle.notions.specs.First.{first}
-use Rattle.refusal.specs.Numbers.{contents}
-use Rattle.refusal.specs.declared.Answer.TheVariants.{Done}
+use Rattle.refusal.specs.declared.Reason.TheVariants.{Contents}
 use Rattle.notions.proofs.Tests.{cases, neither}
-use Rattle.notions.proofs.First.{Passed, passed_zero, passed_more, passed_found, passed_all, none_found}
+use Rattle.notions.proofs.First.{none_found}
 use Rattle.refusal.proofs.Order.{done_passed}
 use Rattle.layout.specs.Layouts.{layout_bytes}
 use Rattle.file_contents.specs.Contents.{largest_file, contents_size, entries, layout_entry, memory_entry, trace_entry}
@@ -47,45 +46,17 @@ right f k begin e =
 
 -- ---- the search
 
--- the entries below k are right, and the next body has to begin here
-pub record Searched (f : List ℕ) (k begin : ℕ) : Type 0 where
-  pub at : begin ≡ begins f k
-  pub within : begin ≤ length f
-  pub passed : Passed entries (entry_fails f) k
+-- a file under 24 bytes fails at entry 0
+short : (f : List ℕ) → length f < contents_size → entry_fails f layout_entry ≡ true
+unfolding entry_fails begins
+short f h =
+    let past = lt-ltb (length f) (contents_size + size f layout_entry) (omega (arith, h)) in
+    cases (eqb (offset f layout_entry) contents_size) (λ t. simp (t, past)) (λ t. simp t)
 
-pub none : (f : List ℕ) → contents_size ≤ length f → Searched f 0 contents_size
-unfolding begins
-none f h = record { at = refl; within = h; passed = passed_zero entries (entry_fails f) }
-
-test_at : (f : List ℕ) (k begin : ℕ) (t : Bool) → Searched f k begin → fails_from f k begin ≡ t → entry_fails f k ≡ t
-unfolding entry_fails
-test_at f k begin t s e = ap (fails_from f k) (sym s.at) ∙ e
-
-pub more : (f : List ℕ) (k begin z : ℕ) → Searched f k begin → k < entries → fails_from f k begin ≡ false → z ≡ size f k
-    → Searched f (k + 1) (begin + z)
-unfolding begins
-more f k begin z s h e ez = record {
-  at = rw add-one (cc (s.at, ez));
-  within = omega (arith, (right f k begin e).within);
-  passed = passed_more s.passed h (test_at f k begin false s e);
-}
-
--- what it answers for a file that has no contents, at a hit, and at the end
-pub short : (f : List ℕ) → length f < contents_size → 0 ≡ first_failing f
-unfolding first_failing
-short f h = simp (lt-ltb (length f) contents_size h)
-
-first_failing_is : (f : List ℕ) → contents_size ≤ length f → first_failing f ≡ first entries (entry_fails f)
-unfolding first_failing
-first_failing_is f h = simp (le-ltb (length f) contents_size h)
-
-pub found : (f : List ℕ) (k begin : ℕ) → contents_size ≤ length f → Searched f k begin → k < entries
-    → fails_from f k begin ≡ true
-    → k ≡ first_failing f
-found f k begin h s l e = passed_found s.passed l (test_at f k begin true s e) ∙ sym (first_failing_is f h)
-
-pub all : (f : List ℕ) (k begin : ℕ) → contents_size ≤ length f → Searched f k begin → entries ≤ k → k ≡ first_failing f
-all f k begin h s l = passed_all s.passed l ∙ sym (first_failing_is f h)
+pub first_failing_is : (f : List ℕ) → first_failing f ≡ first entries (entry_fails f)
+unfolding first_failing first
+first_failing_is f =
+    cases (ltb (length f) contents_size) (λ t. simp (t, short f (ltb-true (length f) contents_size t))) (λ t. simp t)
 
 -- ---- a file that passes
 
@@ -101,22 +72,15 @@ pub record Sound (f : List ℕ) : Type 0 where
   pub layout : size f layout_entry ≡ layout_bytes
   pub whole : memory_at + size f memory_entry + size f trace_entry ≡ length f
 
--- a file under 24 bytes fails at entry 0
-long_enough : (f : List ℕ) → entries ≤ first_failing f → contents_size ≤ length f
-long_enough f h =
-    cases (ltb (length f) contents_size) (λ t. absurd (omega (arith, short f (ltb-true (length f) contents_size t))))
-    (λ t. ltb-false (length f) contents_size t)
-
-pub sound : (f : List ℕ) → file_check f ≡ Done → Sound f
+pub sound : (f : List ℕ) → file_check f ≡ Ok tt → Sound f
 unfolding file_check entry_fails begins
 sound f e =
     let p = done_passed (ltb largest_file (length f)) _ _ e in
-    let q = done_passed (ltb (first_failing f) entries) (record { number = contents; place = first_failing f }) Done
+    let q = done_passed (ltb (first_failing f) entries) (record { reason = Contents; place = first_failing f }) (Ok tt)
     p.1 in
-    let h = long_enough f (ltb-false (first_failing f) entries q.0) in
     let m = contents_size + size f layout_entry + size f memory_entry in
     let g : (k : ℕ) → k < entries → entry_fails f k ≡ false =
-    none_found entries (entry_fails f) (ap (λ (n : ℕ). ltb n entries) (sym (first_failing_is f h)) ∙ q.0) in
+    none_found entries (entry_fails f) (ap (λ (n : ℕ). ltb n entries) (sym (first_failing_is f)) ∙ q.0) in
     let l = right f layout_entry contents_size (g layout_entry (omega arith)) in
     let t = right f trace_entry m (g trace_entry (omega arith)) in
     let z : size f layout_entry ≡ layout_bytes =

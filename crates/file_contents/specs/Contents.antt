@@ -1,14 +1,12 @@
 -- The contents of a run file: three entries, for layout, memory and trace, and the bodies that they name.
 -- Assumes nothing.
-use Rattle.std.specs.Prelude.{Bool, not, ◌&&◌, ◌||◌, List, ℕ, zero, suc, ◌+◌, ◌*◌, eqb, ltb, length, take, drop}
+use Rattle.std.specs.Prelude.{Bool, not, ◌&&◌, ◌||◌, List, ℕ, zero, suc, ◌+◌, ◌*◌, eqb, ltb, length, take, drop, Ok}
 use Rattle.octets.specs.Numbers.{number_at}
 use Rattle.notions.specs.Choice.{pick}
 use Rattle.notions.specs.First.{first}
-use Rattle.refusal.specs.Answers.{refused_at}
-use Rattle.refusal.specs.Numbers.{contents, file_size}
+use Rattle.refusal.specs.Answers.{Answer, refused_at}
+use Rattle.refusal.specs.declared.Reason.TheVariants.{Contents, FileSize}
 use Rattle.layout.specs.Layouts.{layout_bytes}
-use Rattle.refusal.specs.declared.Answer.{Answer}
-use Rattle.refusal.specs.declared.Answer.TheVariants.{Done}
 
 -- the most bytes of a run file
 abbrev pub largest_file : ℕ
@@ -68,8 +66,8 @@ first_failing f = pick (ltb (length f) contents_size) 0 (first entries (entry_fa
 -- refusals 15 and 13
 unfoldable pub file_check : List ℕ → Answer
 file_check f =
-    pick (ltb largest_file (length f)) (refused_at file_size 0)
-    (pick (ltb (first_failing f) entries) (refused_at contents (first_failing f)) Done)
+    pick (ltb largest_file (length f)) (refused_at FileSize 0)
+    (pick (ltb (first_failing f) entries) (refused_at Contents (first_failing f)) (Ok tt))
 
 -- the body of entry k
 unfoldable pub body : List ℕ → ℕ → List ℕ

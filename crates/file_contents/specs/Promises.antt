@@ -1,7 +1,6 @@
 -- What the reading of a run file's contents promises, for all inputs. Assumes nothing.
 use Rattle.std.specs.Prelude.{◌≡◌, List, ℕ}
-use Rattle.refusal.specs.Answers.{row}
-use Rattle.refusal.specs.declared.Answer.{Answer}
+use Rattle.refusal.specs.Answers.{Answer, row}
 use Rattle.file_contents.specs.Contents.{trace_entry, begins, file_check}
 
 -- `check_contents`

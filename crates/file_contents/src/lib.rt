@@ -1,11 +1,12 @@
 // The contents of a run file: which entry fails, and where the bodies stand.
 #![tactic(auto)]
 
-ghost use Rattle.std.specs.Prelude.{◌≡◌, ◌≤◌, ◌<◌, length};
+ghost use Rattle.std.specs.Prelude.{◌≡◌, ◌<◌};
+ghost use Rattle.notions.specs.First.{found};
 ghost use Rattle.file_contents.specs.Contents as C;
 ghost use Rattle.file_contents.specs.Promises as P;
 
-use refusal::Answer;
+use refusal::{Reason, Refusal};
 
 // The most bytes of a run file.
 pub const LARGEST_FILE: usize = 49_152;
@@ -19,10 +20,8 @@ const ENTRY_SIZE: usize = 8;
 
 const NUMBER_SIZE: usize = 4;
 
-// The entries' numbers.
+// The entries' numbers. No enum: a place in the file is worked out from them (`begins`).
 const LAYOUT_ENTRY: usize = 0;
-
-const MEMORY_ENTRY: usize = 1;
 
 const TRACE_ENTRY: usize = 2;
 
@@ -34,12 +33,24 @@ fn size(file: &[u8], k: usize) -> usize
     octets::number_at(file, ENTRY_SIZE * k + NUMBER_SIZE, NUMBER_SIZE) as usize
 }
 
-// Entry k fails, where its body has to begin at `begin`. No sum here is over 2^33.
-fn fails_from(file: &[u8], k: usize, begin: usize) -> bool
-    requires { (k < C.entries) × (begin ≤ length file.now) × (length file.now ≤ C.largest_file) }
-    ensures { result ≡ C.fails_from file.now k begin }
+// Where the body of an entry has to begin: behind the contents and the bodies before it. No sum here is over 2^34.
+fn begins(file: &[u8], k: usize) -> usize
+    requires { k < C.entries }
+    ensures { (result ≡ C.begins file.now k) × (result < 17179869184) }
+{
+    let mut at = CONTENTS_SIZE;
+    for j in 0..k {
+        at += size(file, j);
+    }
+    at
+}
+
+fn entry_fails(file: &[u8], k: usize) -> bool
+    requires { k < C.entries }
+    ensures { result ≡ C.entry_fails file.now k }
 {
     let n = file.len();
+    let begin = begins(file, k);
     let offset = octets::number_at(file, ENTRY_SIZE * k, NUMBER_SIZE) as usize;
     let size = size(file, k);
     let end = begin + size;
@@ -49,43 +60,29 @@ fn fails_from(file: &[u8], k: usize, begin: usize) -> bool
         | ((k == TRACE_ENTRY) & (end < n))
 }
 
-// The first entry that fails; 3 if none does.
-fn first_failing(file: &[u8]) -> usize
-    requires { length file.now ≤ C.largest_file }
-    ensures { result ≡ C.first_failing file.now }
+// The first entry that fails. In a file under 24 bytes it is entry 0, whose body would begin past the end.
+fn first_failing(file: &[u8]) -> Option<usize>
+    ensures { result ≡ found C.entries (C.entry_fails file.now) }
 {
-    if file.len() < CONTENTS_SIZE {
-        return 0;
-    }
-    let mut begin = CONTENTS_SIZE;
-    let mut k: usize = 0;
-    while k < ENTRIES {
-        if fails_from(file, k, begin) {
-            return k;
-        }
-        begin += size(file, k);
-        k += 1;
-    }
-    k
+    (0..ENTRIES).find(|k| entry_fails(file, *k))
 }
 
 // Refusals 15 and 13.
-pub fn check_contents(file: &[u8]) -> Answer
+pub fn check_contents(file: &[u8]) -> Result<(), Refusal>
     ensures { P.ChecksContents file.now result }
 {
-    if LARGEST_FILE < file.len() {
-        return refusal::refused(refusal::FILE_SIZE);
+    if file.len() > LARGEST_FILE {
+        return Err(Reason::FileSize.into());
     }
-    let place = first_failing(file);
-    if place < ENTRIES {
-        return refusal::refused_at(refusal::CONTENTS, place);
+    if let Some(k) = first_failing(file) {
+        return Err(Reason::Contents.at(k));
     }
-    Answer::Done
+    Ok(())
 }
 
 // Where the trace's body has to begin: behind the contents, the layout and the memory's segments.
 pub fn trace_begins(file: &[u8]) -> usize
     ensures { P.BeginsTrace file.now result }
 {
-    CONTENTS_SIZE + size(file, LAYOUT_ENTRY) + size(file, MEMORY_ENTRY)
+    begins(file, TRACE_ENTRY)
 }

@@ -11,21 +11,16 @@ use lib.Dec.{ltb, eqb}
 use lib.ListN.{length, get_or, drop, length-drop, length-replicate, get_or-replicate}
 use lib.Seq.{paste, length-sets, get_or-drop}
 use borrow.Author.Tests.{ltb-false, eqb-false}
-use Rattle.refusal.specs.Numbers.{segment}
-use Rattle.refusal.specs.declared.Answer.TheVariants.{Done}
+use Rattle.refusal.specs.declared.Reason.TheVariants.{Segment}
 use Rattle.notions.proofs.Tests.{neither}
 use Rattle.notions.proofs.First.{none_found}
 use Rattle.refusal.proofs.Order.{done_passed}
-use Rattle.octets.specs.Numbers.{number_of_two}
 use Rattle.octets.proofs.Laid.{laid_part}
 use Rattle.layout.specs.Calls.{memory_bytes}
 use Rattle.file_segments.specs.Segments.{head_size, start_at, size_at, place, reached, segments, fails_at}
 use Rattle.file_segments.specs.Segments.{segment_fails, first_wrong, segment_check, contents_at, image, described}
 use Rattle.file_segments.proofs.Lists.{paste_in, paste_below, paste_above}
-
--- the length is the number two bytes behind the start
-pub size_at_lem : (b : List ℕ) (p : ℕ) → start_at b (p + 2) ≡ size_at b p
-size_at_lem b p = let e : p + 2 + 1 ≡ p + 3 = omega arith in ap (λ (i : ℕ). number_of_two (get_or b (p + 2) 0) (get_or b i 0)) e
+use Rattle.std.specs.Prelude.{Ok}
 
 -- ---- a segment that does not fail
 
@@ -70,11 +65,11 @@ from b k = start_at b (place b k)
 abbrev pub till : List ℕ → ℕ → ℕ
 till b k = from b k + size_at b (place b k)
 
-module _ (b : List ℕ) (passed : segment_check b ≡ Done) where
+module _ (b : List ℕ) (passed : segment_check b ≡ Ok tt) where
   none_wrong : ltb (first_wrong b) (segments b) ≡ false
   unfolding segment_check
   none_wrong =
-      (done_passed (ltb (first_wrong b) (segments b)) (record { number = segment; place = first_wrong b }) Done passed).0
+      (done_passed (ltb (first_wrong b) (segments b)) (record { reason = Segment; place = first_wrong b }) (Ok tt) passed).0
 
   pub all_right : (k : ℕ) → k < segments b → Right b (place b k) (reached b k)
   unfolding first_wrong segment_fails

@@ -1,7 +1,6 @@
 -- What the reading of a run file's segments promises, for all inputs. Assumes nothing.
 use Rattle.std.specs.Prelude.{◌≡◌, List, ℕ, length}
-use Rattle.refusal.specs.Answers.{row}
-use Rattle.refusal.specs.declared.Answer.{Answer}
+use Rattle.refusal.specs.Answers.{Answer, row}
 use Rattle.file_segments.specs.Segments.{segment_check, segments, image}
 
 -- `check_segments`

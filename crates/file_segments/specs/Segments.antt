@@ -1,13 +1,11 @@
 -- The memory body of a run file: segments of start, length and bytes, and the memory that they describe.
 -- Assumes nothing.
-use Rattle.std.specs.Prelude.{Bool, ◌||◌, List, ℕ, zero, suc, ◌+◌, leb, ltb, eqb, length, get_or, take, drop, replicate}
+use Rattle.std.specs.Prelude.{Bool, ◌||◌, List, ℕ, zero, suc, ◌+◌, leb, ltb, eqb, length, get_or, take, drop, replicate, Ok}
 use Rattle.std.proofs.lemmas.List.Edits.{sets}
 use Rattle.notions.specs.Choice.{pick}
 use Rattle.notions.specs.First.{first}
-use Rattle.refusal.specs.Answers.{refused_at}
-use Rattle.refusal.specs.Numbers.{segment}
-use Rattle.refusal.specs.declared.Answer.{Answer}
-use Rattle.refusal.specs.declared.Answer.TheVariants.{Done}
+use Rattle.refusal.specs.Answers.{Answer, refused_at}
+use Rattle.refusal.specs.declared.Reason.TheVariants.{Segment}
 use Rattle.octets.specs.Numbers.{number_of_two}
 use Rattle.layout.specs.Calls.{memory_bytes}
 
@@ -55,7 +53,7 @@ first_wrong b = first (segments b) (segment_fails b)
 
 -- refusal 14
 unfoldable pub segment_check : List ℕ → Answer
-segment_check b = pick (ltb (first_wrong b) (segments b)) (refused_at segment (first_wrong b)) Done
+segment_check b = pick (ltb (first_wrong b) (segments b)) (refused_at Segment (first_wrong b)) (Ok tt)
 
 -- the contents of the segment at a place: the bytes behind its head, as many of them as there are
 abbrev pub contents_at : List ℕ → ℕ → List ℕ

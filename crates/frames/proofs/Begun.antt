@@ -12,7 +12,7 @@ use Rattle.frames.specs.declared.Framed.{Framed}
 use Rattle.frames.specs.declared.Framed.TheVariants.{Needs}
 use Rattle.frames.specs.Calls.{most_argument_bytes, allowed}
 use Rattle.frames.specs.Frames.{size, behind, framed_one, if_whole, framed_from}
-use Rattle.frames.proofs.Walk.{one_short, one_part, from_suc}
+use Rattle.frames.proofs.Walk.{one_if, one_short, one_part, from_suc}
 use Rattle.frames.proofs.Sent.{length_front, length_sent, length_first, size_back, passes, walk_sent}
 
 -- more bytes are asked for, and none that are not theirs
@@ -42,7 +42,7 @@ module _ (n i k used : ℕ) (a s : List ℕ) (j : ℕ)
       record {
         more = 4 - j;
         asked_for = stops (4 - j)
-            (one_short n i used (take j d) (omega (arith, length_part)) ∙ ap (λ (m : ℕ). Needs (4 - m)) length_part);
+            (one_if n i used (take j d) ∙ one_short _ used (take j d) (omega (arith, length_part)) ∙ ap (λ (m : ℕ). Needs (4 - m)) length_part);
         some = omega arith;
         its_own = omega (arith, length_sent a s);
       }
@@ -56,7 +56,7 @@ module _ (n i k used : ℕ) (a s : List ℕ) (j : ℕ)
       record {
         more = 4 + length a - j;
         asked_for = stops (4 + length a - j)
-            (one_part n i used (take j d) (omega (arith, length_part)) t (omega (arith, length_part, z))
+            (one_if n i used (take j d) ∙ one_part _ used (take j d) (omega (arith, length_part)) t (omega (arith, length_part, z))
             ∙ ap (λ (m : ℕ). Needs (4 + m - length (take j d))) z
             ∙ ap (λ (m : ℕ). Needs (4 + length a - m)) length_part);
         some = omega arith;

@@ -21,7 +21,7 @@ use Rattle.frames.specs.Frames.{size, behind, framed_one, if_whole, framed_from,
 use Rattle.frames.specs.Promises.{Copies}
 use Rattle.frames.specs.Streams.{sent, Lawful, WholeCall, BegunCall, IsCall, AsksForMore}
 use Rattle.frames.proofs.Table.{few_arguments}
-use Rattle.frames.proofs.Walk.{not_whole, one_is_whole, one_cases}
+use Rattle.frames.proofs.Walk.{not_whole, one_if, one_is_whole, one_cases}
 use Rattle.frames.proofs.Sent.{Fits, lawful_fits, fits_lawful, fits_none, allowed_here, few_here, fits_behind}
 use Rattle.frames.proofs.Sent.{fits_more, length_sent, behind_sent, argument_sent, walk_sent}
 use Rattle.frames.proofs.Begun.{Begun, begun_length, begun_argument, begun_behind}
@@ -46,12 +46,13 @@ asks_from n i (suc k) used b m u e =
     let next = framed_from n (suc i) k (used + size b) (behind b) in
     let then : (f : Framed) → framed_one n i used b ≡ f → if_whole f next ≡ Needs m
     = λ f q. sym (ap (λ (g : Framed). if_whole g next) q) ∙ e in
-    one_cases n i used b
-    (λ h q. let s : 4 - length b ≡ m = ap asked (then (Needs (4 - length b)) q) in (omega arith, omega arith))
-    (λ q. clash false (ap asks (then Cut q)) refl)
-    (λ h f q. let s : 4 + size b - length b ≡ m = ap asked (then (Needs (4 + size b - length b)) q) in
+    let o = one_if n i used b in
+    one_cases (allowed n i (size b)) used b
+    (λ h q. let s : 4 - length b ≡ m = ap asked (then (Needs (4 - length b)) (o ∙ q)) in (omega arith, omega arith))
+    (λ q. clash false (ap asks (then Cut (o ∙ q))) refl)
+    (λ h f q. let s : 4 + size b - length b ≡ m = ap asked (then (Needs (4 + size b - length b)) (o ∙ q)) in
     (omega arith, omega arith))
-    (λ w q. let r = asks_from n (suc i) k (used + size b) (behind b) m w.few (then Whole q) in
+    (λ w q. let r = asks_from n (suc i) k (used + size b) (behind b) m w.few (then Whole (o ∙ q)) in
     let l : length (behind b) ≡ length b - (4 + size b) = length-drop (4 + size b) b in
     (r.0, omega (arith, r.1, w.there, w.few, l)))
 
@@ -169,7 +170,7 @@ begins_from n i zero used b p u w =
     record { args = []; rest = b; said = refl; many = refl; fits = fits_none n i used u }
 begins_from n i (suc k) used b p u w =
     let two = both_whole (framed_one n i used b) (framed_from n (suc i) k (used + size b) (behind b)) w in
-    let one = one_is_whole n i used b two.0 in
+    let one = one_is_whole (allowed n i (size b)) used b (sym (one_if n i used b) ∙ two.0) in
     let r = begins_from n (suc i) k (used + size b) (behind b) (bytes_drop (4 + size b) b p) one.few two.1 in
     let a = take (size b) (drop 4 b) in
     let said_here_lem = argument_said b p one.there in

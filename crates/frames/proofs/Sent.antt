@@ -15,7 +15,7 @@ use Rattle.frames.specs.declared.Framed.TheVariants.{Whole}
 use Rattle.frames.specs.Calls.{most_argument_bytes, listed, count, allowed}
 use Rattle.frames.specs.Frames.{size, behind, framed_one, if_whole, framed_from, first_argument}
 use Rattle.frames.specs.Streams.{together, Lawful}
-use Rattle.frames.proofs.Walk.{one_whole, from_suc}
+use Rattle.frames.proofs.Walk.{one_if, one_whole, from_suc}
 
 -- ---- the arguments from i on
 
@@ -132,7 +132,7 @@ walk_sent n i used k a s h f =
     = ap (λ (m : ℕ). not (allowed n i m) || ltb most_argument_bytes (used + m)) (size_sent a s l)
     ∙ passes n i used (length a) h f in
     let one : framed_one n i used d ≡ Whole
-    = one_whole n i used d (omega (arith, length_sent a s)) t (omega (arith, length_sent a s, size_sent a s l)) in
+    = one_if n i used d ∙ one_whole _ used d (omega (arith, length_sent a s)) t (omega (arith, length_sent a s, size_sent a s l)) in
     from_suc n i k used d
     ∙ ap (λ (g : Framed). if_whole g (framed_from n (suc i) k (used + size d) (behind d))) one
     ∙ ap (λ (m : ℕ). framed_from n (suc i) k (used + m) (behind d)) (size_sent a s l)

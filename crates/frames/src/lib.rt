@@ -1,7 +1,7 @@
 // A call in a stream of bytes: whether it is whole, and its arguments.
 #![tactic(auto)]
 
-ghost use Rattle.std.specs.Prelude.{◌≡◌, ◌≤◌, length, drop};
+ghost use Rattle.std.specs.Prelude.{◌≡◌, ◌≤◌, length, drop, option_copied};
 ghost use Rattle.frames.specs.Calls as C;
 ghost use Rattle.frames.specs.Frames as F;
 ghost use Rattle.frames.specs.Promises as P;
@@ -19,70 +19,56 @@ const LENGTH_BYTES: usize = 4;
 pub const LONGEST: usize = 1 + MOST_ARGUMENTS * LENGTH_BYTES + MOST_ARGUMENT_BYTES;
 
 // What bytes are of the call that they begin: too few by so many at least, all of it, or cut.
-#[derive(Clone, Copy)]
+// Three states, and no Option or Result: the laws of specs/Streams.antt name each of them.
+#[derive(Clone, Copy, PartialEq, Eq)]
 pub enum Framed {
     Needs(usize),
     Whole,
     Cut,
 }
 
-// The arguments of one length: a monitor, a state of the running hash, a place in a trace. Every other may have any
-// length.
-const MONITOR_BYTES: usize = 3;
+// The length that an argument must have: any, or that of a monitor, a state of the running hash or a place in a trace.
+type Length = Option<usize>;
 
-const STATE_BYTES: usize = 104;
+const ANY: Length = None;
 
-const PLACE_BYTES: usize = 8;
+const MONITOR: Length = Some(3);
 
-const ANY: usize = MOST_ARGUMENT_BYTES + 1;
+const STATE: Length = Some(104);
 
-// By its number: how many arguments a call has, and the length of each. A number that is no call's has ANY arguments.
-const COLUMNS: usize = 1 + MOST_ARGUMENTS;
+const PLACE: Length = Some(8);
 
-const NO_CALL: [usize; COLUMNS] = [ANY; COLUMNS];
-
-const NUMBERS: usize = 15;
-
-const CALLS: [[usize; COLUMNS]; NUMBERS] = [
-    NO_CALL, // 0: no call
-    [1, ANY, ANY, ANY, ANY, ANY], // 1: layout
-    [5, ANY, ANY, ANY, MONITOR_BYTES, ANY], // 2: memory, layout, step, monitor, room
-    [4, ANY, ANY, ANY, ANY, ANY], // 3: memory, layout, trace, room
-    [2, ANY, ANY, ANY, ANY, ANY], // 4: memory, layout
-    [2, ANY, ANY, ANY, ANY, ANY], // 5: key, challenge
-    [4, ANY, ANY, ANY, ANY, ANY], // 6: key, challenge, reply, region
-    [1, ANY, ANY, ANY, ANY, ANY], // 7: message
-    [2, ANY, ANY, ANY, ANY, ANY], // 8: key, message
-    [2, STATE_BYTES, ANY, ANY, ANY, ANY], // 9: state, bytes
-    [1, STATE_BYTES, ANY, ANY, ANY, ANY], // 10: state
-    [2, STATE_BYTES, ANY, ANY, ANY, ANY], // 11: state, bytes
-    [1, STATE_BYTES, ANY, ANY, ANY, ANY], // 12: state
-    [2, ANY, PLACE_BYTES, ANY, ANY, ANY], // 13: trace, place
-    [3, ANY, ANY, ANY, ANY, ANY], // 14: file, memory, room
+// By its number: the length of each argument of a call, in order.
+const CALLS: [Option<&[Length]>; 15] = [
+    None, // 0: no call
+    Some(&[ANY]), // 1: layout
+    Some(&[ANY, ANY, ANY, MONITOR, ANY]), // 2: memory, layout, step, monitor, room
+    Some(&[ANY, ANY, ANY, ANY]), // 3: memory, layout, trace, room
+    Some(&[ANY, ANY]), // 4: memory, layout
+    Some(&[ANY, ANY]), // 5: key, challenge
+    Some(&[ANY, ANY, ANY, ANY]), // 6: key, challenge, reply, region
+    Some(&[ANY]), // 7: message
+    Some(&[ANY, ANY]), // 8: key, message
+    Some(&[STATE, ANY]), // 9: state, bytes
+    Some(&[STATE]), // 10: state
+    Some(&[STATE, ANY]), // 11: state, bytes
+    Some(&[STATE]), // 12: state
+    Some(&[ANY, PLACE]), // 13: trace, place
+    Some(&[ANY, ANY, ANY]), // 14: file, memory, room
 ];
 
-// What stands in a column of a number's row.
-fn entry(number: u8, column: usize) -> usize
-    ensures { result ≡ W.entry number column }
+// The lengths of a call's arguments, if a call has this number: any byte of a stream, so no enum.
+fn lengths(number: u8) -> Option<&'static [Length]>
+    ensures { option_copied result ≡ W.lengths number }
 {
-    let n = number as usize;
-    if n < NUMBERS {
-        if column < COLUMNS {
-            return CALLS[n][column];
-        }
-    }
-    ANY
+    *CALLS.get(number as usize)?
 }
 
-// Whether an argument of a call may have so many bytes.
-fn allowed(number: u8, i: usize, size: usize) -> bool
-    ensures { result ≡ C.allowed number i size }
+// Whether an argument may have so many bytes.
+fn allows(wanted: Length, size: usize) -> bool
+    ensures { result ≡ W.allows wanted size }
 {
-    if MOST_ARGUMENTS <= i {
-        return true;
-    }
-    let length = entry(number, 1 + i);
-    (length == ANY) | (size == length)
+    wanted.is_none_or(|n| n == size)
 }
 
 // The length of the argument that begins at a place.
@@ -110,16 +96,16 @@ fn behind(bytes: &[u8], at: usize) -> usize
 }
 
 // One argument.
-fn framed_one(bytes: &[u8], at: usize, number: u8, i: usize, used: usize) -> Framed
+fn framed_one(bytes: &[u8], at: usize, wanted: Length, used: usize) -> Framed
     requires { (at ≤ length bytes.now) × (used ≤ C.most_argument_bytes) }
-    ensures { result ≡ F.framed_one number i used (drop at bytes.now) }
+    ensures { result ≡ W.framed_one wanted used (drop at bytes.now) }
 {
     let left = bytes.len() - at;
     if left < LENGTH_BYTES {
         return Framed::Needs(LENGTH_BYTES - left);
     }
     let size = size_at(bytes, at);
-    if !allowed(number, i, size) | (MOST_ARGUMENT_BYTES - used < size) {
+    if !allows(wanted, size) | (MOST_ARGUMENT_BYTES - used < size) {
         return Framed::Cut;
     }
     if left - LENGTH_BYTES < size {
@@ -128,32 +114,20 @@ fn framed_one(bytes: &[u8], at: usize, number: u8, i: usize, used: usize) -> Fra
     Framed::Whole
 }
 
-fn is_whole(f: Framed) -> bool
-    ensures { result ≡ W.is_whole f }
-{
-    match f {
-        Framed::Needs(_) => false,
-        Framed::Whole => true,
-        Framed::Cut => false,
-    }
-}
-
-// All n arguments.
-fn framed_all(bytes: &[u8], number: u8, n: usize) -> Framed
+// All arguments.
+fn framed_all(bytes: &[u8], lengths: &[Length]) -> Framed
     requires { 1 ≤ length bytes.now }
-    ensures { result ≡ F.framed_from number 0 n 0 (drop 1 bytes.now) }
+    ensures { result ≡ W.framed_all lengths.now 0 (drop 1 bytes.now) }
 {
     let mut at = 1;
     let mut used = 0;
-    let mut i = 0;
-    while i < n {
-        let one = framed_one(bytes, at, number, i, used);
-        if !is_whole(one) {
+    for wanted in lengths {
+        let one = framed_one(bytes, at, *wanted, used);
+        if one != Framed::Whole {
             return one;
         }
         used += size_at(bytes, at);
         at = behind(bytes, at);
-        i += 1;
     }
     Framed::Whole
 }
@@ -162,15 +136,13 @@ fn framed_all(bytes: &[u8], number: u8, n: usize) -> Framed
 pub fn frame(bytes: &[u8]) -> Framed
     ensures { P.Frames bytes.now result }
 {
-    if bytes.len() == 0 {
+    let Some(number) = bytes.first() else {
         return Framed::Needs(1);
+    };
+    match lengths(*number) {
+        Some(wanted) => framed_all(bytes, wanted),
+        None => Framed::Cut,
     }
-    let number = bytes[0];
-    let n = entry(number, 0);
-    if n == ANY {
-        return Framed::Cut;
-    }
-    framed_all(bytes, number, n)
 }
 
 // Where argument i begins, or the end of the bytes if there is none.
@@ -179,14 +151,13 @@ fn begin(bytes: &[u8], i: usize) -> usize
         × (F.skipped i (drop 1 bytes.now) ≡ drop result bytes.now) }
 {
     let n = bytes.len();
-    if n == 0 {
-        return 0;
-    }
-    let mut at = 1;
-    let mut j = 0;
-    while j < i && at < n {
+    let mut at = n.min(1);
+    for _ in 0..i {
+        // However great i is, the turns end with the bytes.
+        if at == n {
+            break;
+        }
         at = behind(bytes, at);
-        j += 1;
     }
     at
 }
@@ -197,8 +168,8 @@ pub fn argument(bytes: &[u8], i: usize) -> &[u8]
 {
     let at = begin(bytes, i);
     let n = bytes.len();
-    let from = at + octets::least(n - at, LENGTH_BYTES);
-    let size = octets::least(size_at(bytes, at), n - from);
+    let from = at + (n - at).min(LENGTH_BYTES);
+    let size = size_at(bytes, at).min(n - from);
     &bytes[from..from + size]
 }
 
@@ -207,7 +178,7 @@ pub fn copy_argument(bytes: &[u8], i: usize, room: &mut [u8]) -> usize
     ensures { P.Copies bytes.now i room.old room.new result }
 {
     let given = argument(bytes, i);
-    let fits = octets::least(given.len(), room.len());
+    let fits = given.len().min(room.len());
     room[..fits].copy_from_slice(&given[..fits]);
     fits
 }

@@ -8,19 +8,10 @@ use native.Mathlib.Omega.{arith}
 use lib.ListN.{length, get_or, drop, length-append, length-take}
 use lib.Seq.{sets, drop-cons, drop-length}
 use Rattle.io.specs.Digits.{last_digits, IsDigitCount}
-use Rattle.octets.proofs.Laid.{sets_append, cut}
+use Rattle.octets.proofs.Laid.{part_more, cut}
 use Rattle.octets.proofs.Digits.{two_digits}
 use Rattle.hex_text.specs.Digits.{hex_text}
 use Rattle.hex_text.specs.Promises.{WritesHex}
-
--- a part is laid
-part_more : (out out' goal a b : List ℕ) (p q : ℕ) → sets out p (a ++ b) ≡ goal → out' ≡ sets out p a → q ≡ p + length a
-    → sets out' q b ≡ goal
-part_more out out' goal a b p q e l n =
-    ap (λ (k : ℕ). sets out' k b) n
-    ∙ ap (λ (o : List ℕ). sets o (p + length a) b) l
-    ∙ sets_append a b out p
-    ∙ e
 
 -- two digits
 pub digits_laid : (out out' t : List ℕ) (at n k : ℕ) → n < 256 → IsDigitCount 16 2 n k → t ≡ last_digits 16 k n

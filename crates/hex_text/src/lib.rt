@@ -7,7 +7,8 @@ ghost use Rattle.io.specs.Digits as D;
 ghost use Rattle.hex_text.specs.Digits as T;
 ghost use Rattle.hex_text.specs.Promises as P;
 
-// The digits of a byte.
+// The digits of a byte. They come from `io::hex`, in a buffer with their length: `write!` promises the text only where it answers
+// `Ok`, and nothing rules `Err` out.
 const DIGITS: usize = 2;
 
 // Stores a byte's two digits, as many as fit.
@@ -15,7 +16,7 @@ fn put_digits(out: &mut [u8], at: usize, b: u8)
     ensures { out.new ≡ sets out.old at (D.last_digits T.base T.byte_digits b) }
 {
     let mut text = [0u8; 16];
-    let k = io::hex(b as u64, DIGITS, &mut text);
+    let k = io::hex(u64::from(b), DIGITS, &mut text);
     octets::store(out, at, &text[..k]);
 }
 
@@ -23,14 +24,8 @@ fn put_digits(out: &mut [u8], at: usize, b: u8)
 pub fn write(bytes: &[u8], out: &mut [u8]) -> usize
     ensures { P.WritesHex bytes.now out.old out.new result }
 {
-    let mut i: usize = 0;
-    while i < bytes.len() {
-        put_digits(out, DIGITS * i, bytes[i]);
-        i += 1;
+    for (i, b) in bytes.iter().enumerate() {
+        put_digits(out, DIGITS * i, *b);
     }
-    if out.len() < DIGITS * i {
-        out.len()
-    } else {
-        DIGITS * i
-    }
+    out.len().min(DIGITS * bytes.len())
 }

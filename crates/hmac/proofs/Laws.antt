@@ -7,7 +7,8 @@ use native.Mathlib.Omega.{arith}
 use borrow.Author.Tests.{le-ltb}
 use lib.ListN.{length}
 use Rattle.notions.specs.Bytes.{Bytes}
-use Rattle.sha256.specs.declared.Bytes32.{Bytes32}
+use Rattle.refusal.specs.declared.Refusal.{Refusal}
+use Rattle.std.specs.Prelude.{Result, Ok}
 use Rattle.sha256_digest.proofs.Laws.{length_sha256}
 use Rattle.sha256.proofs.Laws.{gives_bytes}
 use Rattle.sha256_digest.proofs.Bytes.{bytes_sha256}
@@ -27,5 +28,5 @@ pub hmac_short : (k m : List ℕ) → long (hmac k m) ≡ false
 hmac_short k m = le-ltb most (length (hmac k m)) (omega (arith, length_hmac k m))
 
 -- what `mac` answers where nothing is refused
-pub mac_bytes : (k m : List ℕ) (r : Bytes32) → long k ≡ false → long m ≡ false → Macs k m r → r.bytes ≡ hmac k m
+pub mac_bytes : (k m : List ℕ) (r : Result (List ℕ) Refusal) → long k ≡ false → long m ≡ false → Macs k m r → r ≡ Ok (hmac k m)
 mac_bytes k m r p q e = gives_bytes e (simp (p, q))

@@ -6,7 +6,8 @@ ghost use Rattle.sha256_digest.specs.Hash.{sha256};
 ghost use Rattle.hmac.specs.Hmac as S;
 ghost use Rattle.hmac.specs.Promises as P;
 
-use sha256::{BLOCK, Bytes32, DIGEST, Sha};
+use refusal::{Reason, Refusal};
+use sha256::{BLOCK, DIGEST, Sha};
 
 // The most bytes of a key, and of a message.
 pub const MOST: usize = 65_536;
@@ -21,9 +22,8 @@ fn key_block(key: &[u8]) -> [u8; BLOCK]
     ensures { result ≡ S.k0 key.now }
 {
     if key.len() > BLOCK {
-        let h = sha256::hash(key);
-        let d = h.bytes;
-        return sha256::block_of(&d);
+        let digest = sha256_digest::digest_of(key);
+        return sha256::block_of(&digest);
     }
     sha256::block_of(key)
 }
@@ -32,14 +32,7 @@ fn key_block(key: &[u8]) -> [u8; BLOCK]
 fn mask(block: [u8; BLOCK], x: u8) -> [u8; BLOCK]
     ensures { result ≡ S.xored x block }
 {
-    let mut b = block;
-    let mut i = 0;
-    // The first i bytes of b are masked, and those behind them are the block's.
-    while i < BLOCK {
-        b[i] = b[i] ^ x;
-        i += 1;
-    }
-    b
+    block.map(|b| b ^ x)
 }
 
 // The hash of a block and a message joined. The message is hashed where it stands.
@@ -47,12 +40,9 @@ fn hash_joined(block: [u8; BLOCK], message: &[u8]) -> [u8; DIGEST]
     requires { length message.now ≤ P.most }
     ensures { result ≡ sha256 (block ++ message.now) }
 {
-    let first = Sha::start().take_in(&block);
-    let s = first.state;
-    let second = s.take_in(message);
-    let t = second.state;
-    let d = t.finish();
-    d.bytes
+    let first = Sha::start().take_in(&block).state;
+    let second = first.take_in(message).state;
+    second.finish().unwrap()
 }
 
 fn mac_of(key: &[u8], message: &[u8]) -> [u8; DIGEST]
@@ -65,11 +55,11 @@ fn mac_of(key: &[u8], message: &[u8]) -> [u8; DIGEST]
 }
 
 // The MAC of a message under a key; refused if either is over 65,536 bytes.
-pub fn mac(key: &[u8], message: &[u8]) -> Bytes32
+pub fn mac(key: &[u8], message: &[u8]) -> Result<[u8; DIGEST], Refusal>
     ensures { P.Macs key.now message.now result }
 {
     if (key.len() > MOST) | (message.len() > MOST) {
-        return Bytes32::refused();
+        return Err(Reason::LengthOrTotal.into());
     }
-    Bytes32::given(mac_of(key, message))
+    Ok(mac_of(key, message))
 }

@@ -26,6 +26,7 @@ pub fn read_full<R: Read>(input: &mut R, buffer: &mut [u8]) -> io::Result<usize>
     ensures end { IfOk result (λ n. n < length buffer.new → IsAtEnd (R.remaining input.new)) }
     ensures kept { length buffer.new ≡ length buffer.old }
 {
+    // No `for`: n grows by the bytes that a read gave. And `read_exact` does not say how many came before the end.
     let mut n = 0;
     while n < buffer.len() {
         let k = read_at(input, buffer, n)?;

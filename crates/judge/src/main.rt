@@ -1,5 +1,5 @@
 // Reads a run file on standard input, judges it, and prints what came of it. One byte more is read than a file may
-// have, so that a longer one is told from it.
+// have, so that a longer one is told from it. File and text have their lengths beside them: this project has no heap.
 #![tactic(auto)]
 
 use std::io;

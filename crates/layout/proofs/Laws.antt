@@ -8,18 +8,15 @@ use native.Mathlib.Omega.{arith}
 use borrow.Author.Tests.{leb-true, le-leb, ltb-true, ltb-false, lt-ltb, le-ltb, eqb-true, eq-eqb, not-true, not-false}
 use lib.Dec.{leb, ltb, eqb}
 use lib.ListN.{length}
-use Rattle.refusal.specs.Answers.{told}
-use Rattle.refusal.specs.Numbers.{layout_size, region_reversed, region_size, zero_in_code, regions_share}
+use Rattle.refusal.specs.Numbers.{number}
+use Rattle.refusal.specs.Answers.{Answer, told}
+use Rattle.refusal.specs.declared.Reason.TheVariants.{LayoutSize, RegionReversed, RegionSize, ZeroInCode, RegionsShare}
 use Rattle.refusal.specs.declared.Refusal.{Refusal}
-use Rattle.refusal.specs.declared.Answer.{Answer}
-use Rattle.refusal.specs.declared.Answer.TheVariants.{Done, Refused}
 use Rattle.notions.proofs.Tests.{cases, untrue, clash, both, neither}
 use Rattle.notions.proofs.First.{none_found, found_none}
 use Rattle.refusal.proofs.Order.{done_passed, Refuses, refuses_none, refuses_test}
 use Rattle.layout.specs.declared.Region.{Region}
 use Rattle.layout.specs.declared.Layout.{Layout}
-use Rattle.layout.specs.declared.Checked.{Checked}
-use Rattle.layout.specs.declared.Checked.TheVariants as checked
 use Rattle.layout.specs.Regions.{within, reversed, size, shares}
 use Rattle.layout.specs.Layouts.{CR, KR, MR, CTR, region, layout_of, wrong_size, may_share, collide, layout_check}
 use Rattle.layout.specs.Layouts.{first_reversed, first_wrong_size, first_collision}
@@ -27,38 +24,39 @@ use Rattle.layout.specs.Layouts.{layout_bytes, regions, key_bytes, counter_bytes
 use Rattle.layout.specs.Promises.{layout_values, checked_row, Checks}
 use Rattle.layout.proofs.Settled.{checked_row_settled}
 use Rattle.layout.specs.Good.{Good}
+use Rattle.std.specs.Prelude.{Err, Ok, Result}
 
 -- ---- what `check` answers
 
-abbrev pub checked_as : Answer → Layout → Checked
-checked_as Done l = checked.Good l
-checked_as (Refused r) l = checked.Refused r
+abbrev pub checked_as : Answer → Layout → Result Layout Refusal
+checked_as (Ok u) l = Ok l
+checked_as (Err r) l = Err r
 
 row_checked_as : (a : Answer) (l : Layout) → checked_row (checked_as a l) ≡ told a (layout_values l)
-row_checked_as Done l = refl
-row_checked_as (Refused r) l = refl
+row_checked_as (Ok u) l = refl
+row_checked_as (Err r) l = refl
 
-pub is_checks : (b : List ℕ) (r : Checked) → r ≡ checked_as (layout_check b) (layout_of b) → Checks b r
+pub is_checks : (b : List ℕ) (r : Result Layout Refusal) → r ≡ checked_as (layout_check b) (layout_of b) → Checks b r
 is_checks b r e = record { answered = ap checked_row e ∙ row_checked_as (layout_check b) (layout_of b) }
 
-from_good : (a : Answer) (l m : Layout) → checked.Good m ≡ checked_as a l → (a ≡ Done) × (m ≡ l)
-from_good Done l m e = (refl, cc)
-from_good (Refused r) l m e = absurd (let z : ◌≡◌ {A = ℕ} 0 1 = cc in omega arith)
+from_good : (a : Answer) (l m : Layout) → Ok m ≡ checked_as a l → (a ≡ Ok tt) × (m ≡ l)
+from_good (Ok u) l m e = (refl, cc)
+from_good (Err r) l m e = absurd (cc)
 
-from_refused : (a : Answer) (l : Layout) (r : Refusal) → checked.Refused r ≡ checked_as a l → a ≡ Refused r
-from_refused Done l r e = absurd (let z : ◌≡◌ {A = ℕ} 0 1 = cc in omega arith)
-from_refused (Refused s) l r e = cc
+from_refused : (a : Answer) (l : Layout) (r : Refusal) → Err r ≡ checked_as a l → a ≡ Err r
+from_refused (Ok u) l r e = absurd (cc)
+from_refused (Err s) l r e = cc
 
 -- the same by the answer's two forms, whatever was checked
-pub told_good : (a : Answer) (l m : Layout) → checked_row (checked.Good m) ≡ told a (layout_values l)
-    → (a ≡ Done) × (m ≡ l)
+pub told_good : (a : Answer) (l m : Layout) → checked_row (Ok m) ≡ told a (layout_values l)
+    → (a ≡ Ok tt) × (m ≡ l)
 told_good a l m e =
-    from_good a l m (checked_row_settled (checked.Good m) (checked_as a l) (e ∙ sym (row_checked_as a l)))
+    from_good a l m (checked_row_settled (Ok m) (checked_as a l) (e ∙ sym (row_checked_as a l)))
 
-pub told_refused : (a : Answer) (l : Layout) (r : Refusal) → checked_row (checked.Refused r) ≡ told a (layout_values l)
-    → a ≡ Refused r
+pub told_refused : (a : Answer) (l : Layout) (r : Refusal) → checked_row (Err r) ≡ told a (layout_values l)
+    → a ≡ Err r
 told_refused a l r e =
-    from_refused a l r (checked_row_settled (checked.Refused r) (checked_as a l) (e ∙ sym (row_checked_as a l)))
+    from_refused a l r (checked_row_settled (Err r) (checked_as a l) (e ∙ sym (row_checked_as a l)))
 
 -- ---- regions
 
@@ -109,7 +107,7 @@ record Passes (b : List ℕ) : Type 0 where
   apart : (n : ℕ) → n < regions * regions
       → (ltb (n / regions) (n % regions) && collide b (n / regions) (n % regions)) ≡ false
 
-done_passes : (b : List ℕ) → layout_check b ≡ Done → Passes b
+done_passes : (b : List ℕ) → layout_check b ≡ Ok tt → Passes b
 unfolding layout_check
 done_passes b e =
     let p = done_passed _ _ _ e in
@@ -125,12 +123,12 @@ done_passes b e =
       apart = none_found _ _ u.0;
     }
 
-passes_done : (b : List ℕ) → Passes b → layout_check b ≡ Done
+passes_done : (b : List ℕ) → Passes b → layout_check b ≡ Ok tt
 unfolding layout_check
 passes_done b p =
     simp (p.long, found_none _ _ p.ordered, found_none _ _ p.sized, p.outside, found_none _ _ p.apart)
 
-pub done_good : (b : List ℕ) → layout_check b ≡ Done → Good b
+pub done_good : (b : List ℕ) → layout_check b ≡ Ok tt → Good b
 done_good b e =
     let p = done_passes b e in
     record {
@@ -176,7 +174,7 @@ no_collision b g i j h e =
     let s = (shares_exactly (region b i) (region b j) (forward b g i (omega arith)) (forward b g j h)).0 q.1 in
     g.apart i j l h (not-true (may_share i j) q.0) s.0 s.1 s.2
 
-pub good_done : (b : List ℕ) → Good b → layout_check b ≡ Done
+pub good_done : (b : List ℕ) → Good b → layout_check b ≡ Ok tt
 good_done b g =
     passes_done b (record {
       long = eq-eqb (length b) layout_bytes g.long;
@@ -190,20 +188,20 @@ good_done b g =
     })
 
 -- one that does not is refused with 2 to 6
-pub layout_numbers : (b : List ℕ) → Refuses (λ n. (layout_size ≤ n) × (n ≤ regions_share)) (layout_check b)
+pub layout_numbers : (b : List ℕ) → Refuses (λ n. (number LayoutSize ≤ n) × (n ≤ number RegionsShare)) (layout_check b)
 unfolding layout_check
 layout_numbers b =
-    let P : ℕ → Type 0 = λ n. (layout_size ≤ n) × (n ≤ regions_share) in
-    refuses_test P (not (eqb (length b) layout_bytes)) layout_size 0 _ (omega arith, omega arith)
-    (refuses_test P (ltb (first_reversed b) regions) region_reversed (first_reversed b) _ (omega arith, omega arith)
-    (refuses_test P (ltb (first_wrong_size b) regions) region_size (first_wrong_size b) _ (omega arith, omega arith)
-    (refuses_test P (within (region b CR) 0) zero_in_code 0 _ (omega arith, omega arith)
-    (refuses_test P (ltb (first_collision b) (regions * regions)) regions_share 0 Done (omega arith, omega arith)
+    let P : ℕ → Type 0 = λ n. (number LayoutSize ≤ n) × (n ≤ number RegionsShare) in
+    refuses_test P (not (eqb (length b) layout_bytes)) LayoutSize 0 _ (omega arith, omega arith)
+    (refuses_test P (ltb (first_reversed b) regions) RegionReversed (first_reversed b) _ (omega arith, omega arith)
+    (refuses_test P (ltb (first_wrong_size b) regions) RegionSize (first_wrong_size b) _ (omega arith, omega arith)
+    (refuses_test P (within (region b CR) 0) ZeroInCode 0 _ (omega arith, omega arith)
+    (refuses_test P (ltb (first_collision b) (regions * regions)) RegionsShare 0 (Ok tt) (omega arith, omega arith)
     (refuses_none P)))))
 
 -- ---- the regions of a layout that passes
 
-pub zero_outside_lem : (b : List ℕ) → layout_check b ≡ Done → within (layout_of b).cr 0 ≡ false
+pub zero_outside_lem : (b : List ℕ) → layout_check b ≡ Ok tt → within (layout_of b).cr 0 ≡ false
 unfolding layout_of
 zero_outside_lem b e = (done_good b e).zero
 

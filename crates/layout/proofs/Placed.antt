@@ -8,7 +8,6 @@ use native.Mathlib.Omega.{arith}
 use borrow.Author.Tests.{ltb-true, ltb-false}
 use lib.Dec.{ltb}
 use Rattle.notions.specs.Bytes.{Bytes}
-use Rattle.refusal.specs.declared.Answer.TheVariants.{Done}
 use Rattle.notions.proofs.Tests.{cases}
 use Rattle.layout.specs.declared.Layout.{Layout}
 use Rattle.layout.specs.Regions.{size}
@@ -17,6 +16,7 @@ use Rattle.layout.specs.Layouts.{CR, KR, MR, CTR, AR, region, layout_of, may_sha
 use Rattle.layout.specs.Calls.{memory_bytes}
 use Rattle.layout.specs.Good.{Good}
 use Rattle.layout.proofs.Laws.{done_good, ends_within}
+use Rattle.std.specs.Prelude.{Ok}
 
 pub record Placed (l : Layout) : Type 0 where
   pub key : size l.kr ≡ key_bytes
@@ -83,5 +83,5 @@ good_placed b h g =
           [ inl p ↦ inr (omega arith) | inr p ↦ inl (omega arith) ];
     }
 
-pub placed : (b : List ℕ) → Bytes b → layout_check b ≡ Done → Placed (layout_of b)
+pub placed : (b : List ℕ) → Bytes b → layout_check b ≡ Ok tt → Placed (layout_of b)
 placed b h e = good_placed b h (done_good b e)

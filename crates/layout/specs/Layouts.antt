@@ -1,11 +1,9 @@
 -- The rules page on layouts: 24 bytes, six regions in this order, and which bytes are refused. Assumes nothing.
-use Rattle.std.specs.Prelude.{Bool, not, ◌&&◌, ◌||◌, List, ℕ, ◌+◌, ◌*◌, ◌/◌, ◌%◌, eqb, ltb, length, get_or}
+use Rattle.std.specs.Prelude.{Bool, not, ◌&&◌, ◌||◌, List, ℕ, ◌+◌, ◌*◌, ◌/◌, ◌%◌, eqb, ltb, length, get_or, Ok}
 use Rattle.notions.specs.Choice.{pick}
 use Rattle.notions.specs.First.{first}
-use Rattle.refusal.specs.Answers.{refused_at}
-use Rattle.refusal.specs.Numbers.{layout_size, region_reversed, region_size, zero_in_code, regions_share}
-use Rattle.refusal.specs.declared.Answer.{Answer}
-use Rattle.refusal.specs.declared.Answer.TheVariants.{Done}
+use Rattle.refusal.specs.Answers.{Answer, refused_at}
+use Rattle.refusal.specs.declared.Reason.TheVariants.{LayoutSize, RegionReversed, RegionSize, ZeroInCode, RegionsShare}
 use Rattle.octets.specs.Numbers.{number_of_two}
 use Rattle.layout.specs.declared.Region.{Region}
 use Rattle.layout.specs.declared.Layout.{Layout}
@@ -89,17 +87,19 @@ first_reversed b = first regions (λ k. reversed (region b k))
 abbrev pub first_wrong_size : List ℕ → ℕ
 first_wrong_size b = first regions (λ k. wrong_size k (region b k))
 
--- of the pairs of regions that collide the one with the smallest number, which is six times the lower one's plus the
--- higher one's; 36 if none do
+-- a pair of regions by its number, which is six times the lower one's plus the higher one's
+abbrev pub pair_collides : List ℕ → ℕ → Bool
+pair_collides b n = ltb (n / regions) (n % regions) && collide b (n / regions) (n % regions)
+
+-- of the pairs that collide the one with the smallest number; 36 if none do
 abbrev pub first_collision : List ℕ → ℕ
-first_collision b =
-    first (regions * regions) (λ n. ltb (n / regions) (n % regions) && collide b (n / regions) (n % regions))
+first_collision b = first (regions * regions) (pair_collides b)
 
 -- refusals 2 to 6, in the page's order
 unfoldable pub layout_check : List ℕ → Answer
 layout_check b =
-    pick (not (eqb (length b) layout_bytes)) (refused_at layout_size 0)
-    (pick (ltb (first_reversed b) regions) (refused_at region_reversed (first_reversed b))
-    (pick (ltb (first_wrong_size b) regions) (refused_at region_size (first_wrong_size b))
-    (pick (within (region b CR) 0) (refused_at zero_in_code 0)
-    (pick (ltb (first_collision b) (regions * regions)) (refused_at regions_share 0) Done))))
+    pick (not (eqb (length b) layout_bytes)) (refused_at LayoutSize 0)
+    (pick (ltb (first_reversed b) regions) (refused_at RegionReversed (first_reversed b))
+    (pick (ltb (first_wrong_size b) regions) (refused_at RegionSize (first_wrong_size b))
+    (pick (within (region b CR) 0) (refused_at ZeroInCode 0)
+    (pick (ltb (first_collision b) (regions * regions)) (refused_at RegionsShare 0) (Ok tt)))))

@@ -1,12 +1,13 @@
 // The board's regions, and the check of a layout's bytes.
 #![tactic(auto)]
 
-ghost use Rattle.std.specs.Prelude.{◌≡◌, ◌<◌, length};
+ghost use Rattle.std.specs.Prelude.{◌≡◌, ◌*◌, ◌<◌};
+ghost use Rattle.notions.specs.First.{found};
 ghost use Rattle.layout.specs.Regions as R;
 ghost use Rattle.layout.specs.Layouts as S;
 ghost use Rattle.layout.specs.Promises as P;
 
-use refusal::{Answer, Refusal};
+use refusal::{Reason, Refusal};
 
 // A lowest and a highest address, both included.
 #[derive(Clone, Copy)]
@@ -23,12 +24,6 @@ pub struct Layout {
     pub mr: Region,
     pub ctr: Region,
     pub ar: Region,
-}
-
-#[derive(Clone, Copy)]
-pub enum Checked {
-    Good(Layout),
-    Refused(Refusal),
 }
 
 // The bytes of a layout, how many regions they describe, and the bytes of each.
@@ -48,7 +43,7 @@ const LEAST_MAILBOX: usize = 96;
 // The bytes of a board's memory.
 pub const MEMORY_BYTES: usize = 65_536;
 
-// The regions' numbers.
+// The regions' numbers. No enum: places and the numbers of pairs are worked out from them (`region`, `pair_collides`).
 const CR: usize = 0;
 
 const KR: usize = 1;
@@ -68,18 +63,24 @@ impl Region {
         (self.lo <= a) & (a <= self.hi)
     }
 
+    fn is_reversed(self) -> bool
+        ensures { result ≡ R.reversed self }
+    {
+        self.hi < self.lo
+    }
+
     fn size(self) -> usize
         ensures { result ≡ R.size self }
     {
-        if self.hi < self.lo {
+        if self.is_reversed() {
             return 0;
         }
         (self.hi - self.lo) as usize + 1
     }
 }
 
-fn region_at(b: &[u8], k: usize) -> Region
-    requires { (length b.now ≡ S.layout_bytes) × (k < S.regions) }
+fn region_at(b: &[u8; LAYOUT_BYTES], k: usize) -> Region
+    requires { k < S.regions }
     ensures { result ≡ S.region b.now k }
 {
     let at = REGION_BYTES * k;
@@ -89,19 +90,10 @@ fn region_at(b: &[u8], k: usize) -> Region
     }
 }
 
-fn first_reversed(b: &[u8]) -> usize
-    requires { length b.now ≡ S.layout_bytes }
-    ensures { result ≡ S.first_reversed b.now }
+fn first_reversed(b: &[u8; LAYOUT_BYTES]) -> Option<usize>
+    ensures { result ≡ found S.regions (λ k. R.reversed (S.region b.now k)) }
 {
-    let mut k: usize = 0;
-    while k < REGIONS {
-        let r = region_at(b, k);
-        if r.hi < r.lo {
-            return k;
-        }
-        k += 1;
-    }
-    k
+    (0..REGIONS).find(|k| region_at(b, *k).is_reversed())
 }
 
 fn wrong_size(k: usize, r: Region) -> bool
@@ -113,23 +105,15 @@ fn wrong_size(k: usize, r: Region) -> bool
         | ((k == CTR) & (n != COUNTER_BYTES))
 }
 
-fn first_wrong_size(b: &[u8]) -> usize
-    requires { length b.now ≡ S.layout_bytes }
-    ensures { result ≡ S.first_wrong_size b.now }
+fn first_wrong_size(b: &[u8; LAYOUT_BYTES]) -> Option<usize>
+    ensures { result ≡ found S.regions (λ k. S.wrong_size k (S.region b.now k)) }
 {
-    let mut k: usize = 0;
-    while k < REGIONS {
-        if wrong_size(k, region_at(b, k)) {
-            return k;
-        }
-        k += 1;
-    }
-    k
+    (0..REGIONS).find(|k| wrong_size(*k, region_at(b, *k)))
 }
 
 // Two regions, the one with the lower number first, that share an address and may not: AR and CR may.
-fn collide(b: &[u8], i: usize, j: usize) -> bool
-    requires { (length b.now ≡ S.layout_bytes) × ((i < S.regions) × (j < S.regions)) }
+fn collide(b: &[u8; LAYOUT_BYTES], i: usize, j: usize) -> bool
+    requires { (i < S.regions) × (j < S.regions) }
     ensures { result ≡ S.collide b.now i j }
 {
     let x = region_at(b, i);
@@ -137,96 +121,73 @@ fn collide(b: &[u8], i: usize, j: usize) -> bool
     !((i == CR) & (j == AR)) & ((x.lo <= y.hi) & (y.lo <= x.hi))
 }
 
-// The first pair of regions that collide, over all pairs by number: six times the one's plus the other's.
-fn first_collision(b: &[u8]) -> usize
-    requires { length b.now ≡ S.layout_bytes }
-    ensures { result ≡ S.first_collision b.now }
+// A pair of regions by its number, six times the one's plus the other's: they collide.
+fn pair_collides(b: &[u8; LAYOUT_BYTES], n: usize) -> bool
+    requires { n < S.regions * S.regions }
+    ensures { result ≡ S.pair_collides b.now n }
 {
-    let mut n: usize = 0;
-    while n < REGIONS * REGIONS {
-        let i = n / REGIONS;
-        let j = n % REGIONS;
-        if (i < j) & collide(b, i, j) {
-            return n;
-        }
-        n += 1;
-    }
-    n
+    let i = n / REGIONS;
+    let j = n % REGIONS;
+    (i < j) & collide(b, i, j)
+}
+
+fn first_collision(b: &[u8; LAYOUT_BYTES]) -> Option<usize>
+    ensures { result ≡ found (S.regions * S.regions) (S.pair_collides b.now) }
+{
+    (0..REGIONS * REGIONS).find(|n| pair_collides(b, *n))
 }
 
 // Refusals 3 to 6.
-fn check_regions(b: &[u8]) -> Answer
-    requires { length b.now ≡ S.layout_bytes }
+fn check_regions(b: &[u8; LAYOUT_BYTES]) -> Result<(), Refusal>
     ensures { result ≡ S.layout_check b.now }
 {
-    let reversed = first_reversed(b);
-    if reversed < REGIONS {
-        return refusal::refused_at(refusal::REGION_REVERSED, reversed);
+    if let Some(k) = first_reversed(b) {
+        return Err(Reason::RegionReversed.at(k));
     }
-    let missized = first_wrong_size(b);
-    if missized < REGIONS {
-        return refusal::refused_at(refusal::REGION_SIZE, missized);
+    if let Some(k) = first_wrong_size(b) {
+        return Err(Reason::RegionSize.at(k));
     }
     if region_at(b, CR).holds(0) {
-        return refusal::refused_at(refusal::ZERO_IN_CODE, 0);
+        return Err(Reason::ZeroInCode.into());
     }
-    if first_collision(b) < REGIONS * REGIONS {
-        return refusal::refused_at(refusal::REGIONS_SHARE, 0);
+    if let Some(_) = first_collision(b) {
+        return Err(Reason::RegionsShare.into());
     }
-    Answer::Done
+    Ok(())
 }
 
-fn layout_of(b: &[u8]) -> Layout
-    requires { length b.now ≡ S.layout_bytes }
+fn layout_of(b: &[u8; LAYOUT_BYTES]) -> Layout
     ensures { result ≡ S.layout_of b.now }
 {
-    let cr = region_at(b, CR);
-    let kr = region_at(b, KR);
-    let xs = region_at(b, XS);
-    let mr = region_at(b, MR);
-    let ctr = region_at(b, CTR);
-    let ar = region_at(b, AR);
     Layout {
-        cr,
-        kr,
-        xs,
-        mr,
-        ctr,
-        ar,
+        cr: region_at(b, CR),
+        kr: region_at(b, KR),
+        xs: region_at(b, XS),
+        mr: region_at(b, MR),
+        ctr: region_at(b, CTR),
+        ar: region_at(b, AR),
     }
 }
 
 // The layout that 24 bytes describe; refused as the rules page says.
-pub fn check(layout: &[u8]) -> Checked
+pub fn check(layout: &[u8]) -> Result<Layout, Refusal>
     ensures { P.Checks layout.now result }
 {
-    if layout.len() != LAYOUT_BYTES {
-        return Checked::Refused(Refusal {
-            number: refusal::LAYOUT_SIZE,
-            place: 0,
-        });
-    }
-    match check_regions(layout) {
-        Answer::Done => Checked::Good(layout_of(layout)),
-        Answer::Refused(r) => Checked::Refused(r),
-    }
+    let Ok(b) = <&[u8; LAYOUT_BYTES]>::try_from(layout) else {
+        return Err(Reason::LayoutSize.into());
+    };
+    check_regions(b)?;
+    Ok(layout_of(b))
 }
 
 // For a call on a board's memory: refusals 1 to 6, then those of `rest`; else the layout.
-pub fn admit(memory: &[u8], layout: &[u8], rest: Answer) -> Checked
+pub fn admit(memory: &[u8], layout: &[u8], rest: Result<(), Refusal>) -> Result<Layout, Refusal>
     ensures { P.Admits memory.now layout.now rest result }
 {
     if memory.len() != MEMORY_BYTES {
-        return Checked::Refused(Refusal {
-            number: refusal::MEMORY_SIZE,
-            place: 0,
-        });
+        return Err(Reason::MemorySize.into());
     }
-    match check(layout) {
-        Checked::Good(l) => match rest {
-            Answer::Done => Checked::Good(l),
-            Answer::Refused(r) => Checked::Refused(r),
-        },
-        Checked::Refused(r) => Checked::Refused(r),
-    }
+    let l = check(layout)?;
+    rest?;
+    Ok(l)
 }

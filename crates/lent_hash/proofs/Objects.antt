@@ -7,10 +7,8 @@ use native.Mathlib.Omega.{arith}
 use lib.ListN.{length, drop, replicate, length-append}
 use lib.Seq.{drop_at}
 use Rattle.notions.specs.Choice.{pick}
-use Rattle.refusal.specs.Answers.{row, done, refused_at, refused_if}
-use Rattle.refusal.specs.Numbers.{length_or_total}
-use Rattle.refusal.specs.declared.Answer.{Answer}
-use Rattle.refusal.specs.declared.Answer.TheVariants.{Done, Refused}
+use Rattle.refusal.specs.Answers.{Answer, row, done, refused_at, refused_if}
+use Rattle.refusal.specs.declared.Reason.TheVariants.{LengthOrTotal}
 use Rattle.sha256.specs.declared.Sha.{Sha}
 use Rattle.sha256.specs.Promises.{limit, over}
 use Rattle.sha256_block.specs.Block.{rest}
@@ -20,15 +18,16 @@ use Rattle.sha256.proofs.Running.{length_filled, block_short, taken_within, take
 use Rattle.sha256.proofs.Laws.{started_total, taken_total, length_started, over_not, takes_in_state, hashes_running}
 use Rattle.lent_hash.specs.Objects as claim
 use Rattle.lent_hash.specs.Objects.{Fed, joined}
+use Rattle.std.specs.Prelude.{Err, Ok}
 
 -- ---- one call
 
 -- which of the two the test picked is told by the answer's row
-not_refused : (t : Bool) (s s' z : Sha) → row Done ≡ refused_if t length_or_total → s' ≡ pick t s z → s' ≡ z
-not_refused true s s' z e h = absurd (let u : ◌≡◌ {A = ℕ} 0 12 = cc in omega arith)
+not_refused : (t : Bool) (s s' z : Sha) → row (Ok tt) ≡ refused_if t LengthOrTotal → s' ≡ pick t s z → s' ≡ z
+not_refused true s s' z e h = absurd (cc)
 not_refused false s s' z e h = h
 
-is_refused : (t : Bool) (s s' z : Sha) (a : List ℕ) → a ≡ refused_if t length_or_total → (a ≡ done → ⊥) → s' ≡ pick t s z
+is_refused : (t : Bool) (s s' z : Sha) (a : List ℕ) → a ≡ refused_if t LengthOrTotal → (a ≡ done → ⊥) → s' ≡ pick t s z
     → s' ≡ s
 is_refused true s s' z a e n h = h
 is_refused false s s' z a e n h = absurd (n e)
@@ -52,8 +51,8 @@ tail_is_zero s x s' el p =
 
 pub refused_is_kept : claim.RefusedIsKept
 refused_is_kept s x s' r p =
-    is_refused (over (s.total + length x)) s s' (taken s x) (row (Refused r)) p.answered
-    (λ e. absurd (let u : ◌≡◌ {A = ℕ} 0 1 = cc in omega arith)) p.handed
+    is_refused (over (s.total + length x)) s s' (taken s x) (row (Err r)) p.answered
+    (λ e. absurd (cc)) p.handed
 
 -- ---- a message in parts
 
@@ -65,9 +64,9 @@ objects_of parts (suc k) =
     pick (over (s.total + length (parts k))) s (taken s (parts k))
 
 abbrev answer_of : Bool → Answer
-answer_of t = pick t (refused_at length_or_total 0) Done
+answer_of t = pick t (refused_at LengthOrTotal 0) (Ok tt)
 
-answer_row : (t : Bool) → row (answer_of t) ≡ refused_if t length_or_total
+answer_row : (t : Bool) → row (answer_of t) ≡ refused_if t LengthOrTotal
 answer_row true = refl
 answer_row false = refl
 
@@ -110,5 +109,5 @@ hashes_in_parts parts n objects answers d e f h p q =
     let m : List ℕ = joined parts n in
     let o : over (started.total + length m) ≡ false =
     over_not (started.total + length m) (omega (arith, started_total)) in
-    hashes_running {m = m} {s = started} {r = record { answer = Done; state = objects n }} h refl
+    hashes_running {m = m} {s = started} {r = record { answer = Ok tt; state = objects n }} h refl
     (record { answered = rw o refl; handed = rw o (fed parts n objects answers f n (omega arith) h) }) p q

@@ -1,14 +1,14 @@
 -- Each promise settles the answer and the object. Assumes nothing.
-use Rattle.std.specs.Prelude.{◌≡◌, List, ℕ}
+use Rattle.std.specs.Prelude.{◌≡◌, List, ℕ, Result}
 use Rattle.std.proofs.Common.{ap, sym, ◌∙◌}
-use Rattle.refusal.specs.declared.Answer.{Answer}
 use Rattle.sha256.specs.declared.Sha.{Sha}
 use Rattle.sha256.specs.declared.Taken.{Taken}
-use Rattle.sha256.specs.declared.Bytes32.{Bytes32}
+use Rattle.refusal.specs.declared.Refusal.{Refusal}
 use Rattle.sha256.specs.Promises as by_value
 use Rattle.sha256.proofs.Settled as by_value_settled
 use Rattle.lent_hash.specs.declared.Finished.{Finished}
 use Rattle.lent_hash.specs.Promises.{Starts, TakesIn, Finishes, FinishesLent}
+use Rattle.refusal.specs.Answers.{Answer}
 
 pub starts_settled : (s₁ s₂ : Sha) → Starts s₁ → Starts s₂ → s₁ ≡ s₂
 starts_settled s₁ s₂ p q = by_value_settled.starts_settled s₁ s₂ p q
@@ -24,7 +24,7 @@ pub takes_in_settled : {s : Sha} {x : List ℕ} (s₁ s₂ : Sha) (r q : Answer)
     → (r ≡ q) × (s₁ ≡ s₂)
 takes_in_settled s₁ s₂ r q p p' = as_by_value s₁ r (record { answer = q; state = s₂ }) p p'
 
-pub finishes_settled : (s : Sha) (r q : Bytes32) → Finishes s r → Finishes s q → r ≡ q
+pub finishes_settled : (s : Sha) (r q : Result (List ℕ) Refusal) → Finishes s r → Finishes s q → r ≡ q
 finishes_settled s r q p p' = by_value_settled.finishes_settled s r q p p'
 
 pub finishes_lent_settled : (s : Sha) (r q : Finished) → FinishesLent s r → FinishesLent s q → r ≡ q

@@ -1,12 +1,12 @@
 -- What the functions over a lent running hash promise: what the methods by value promise, of what stands in the object
 -- before and after.
 -- Assumes nothing.
-use Rattle.std.specs.Prelude.{◌≡◌, List, ℕ}
-use Rattle.refusal.specs.declared.Answer.{Answer}
+use Rattle.std.specs.Prelude.{◌≡◌, List, ℕ, Result}
 use Rattle.sha256.specs.declared.Sha.{Sha}
-use Rattle.sha256.specs.declared.Bytes32.{Bytes32}
+use Rattle.refusal.specs.declared.Refusal.{Refusal}
 use Rattle.sha256.specs.Promises as by_value
 use Rattle.lent_hash.specs.declared.Finished.{Finished}
+use Rattle.refusal.specs.Answers.{Answer}
 
 -- an object is its three fields, whatever they are
 abbrev pub object : List ℕ → List ℕ → ℕ → Sha
@@ -21,7 +21,7 @@ abbrev pub TakesIn : Sha → List ℕ → Sha → Answer → Type 0
 TakesIn s x s' r = by_value.TakesIn s x (record { answer = r; state = s' })
 
 -- `finish`: the object is read only
-abbrev pub Finishes : Sha → Bytes32 → Type 0
+abbrev pub Finishes : Sha → Result (List ℕ) Refusal → Type 0
 Finishes s r = by_value.Finishes s r
 
 -- `finish_with_fields`: the object is handed back as it was

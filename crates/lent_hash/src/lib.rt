@@ -4,13 +4,13 @@
 
 ghost use Rattle.lent_hash.specs.Promises as P;
 
-use refusal::Answer;
-use sha256::{Bytes32, Sha, Taken};
+use refusal::Refusal;
+use sha256::{DIGEST, Sha, Taken};
 
-// A digest, and the state that it is of.
+// A digest, and the state that it is of: the edit finish_changes_the_total is of its field.
 #[derive(Clone, Copy)]
 pub struct Finished {
-    pub digest: Bytes32,
+    pub digest: Result<[u8; DIGEST], Refusal>,
     pub state: Sha,
 }
 
@@ -21,8 +21,9 @@ pub fn start(state: &mut Sha)
     *state = Sha::start();
 }
 
-// Takes the bytes in; refused, and the object as it was, if there would be over 131,072 in all.
-pub fn take_in(state: &mut Sha, bytes: &[u8]) -> Answer
+// Takes the bytes in; refused, and the object as it was, if there would be over 131,072 in all. The rules page wants this
+// form: the object is taken apart, the method by value is called, and the fields are stored back.
+pub fn take_in(state: &mut Sha, bytes: &[u8]) -> Result<(), Refusal>
     ensures { P.TakesIn state.old bytes.now state.new result }
 {
     let words = state.words;
@@ -42,64 +43,39 @@ pub fn take_in(state: &mut Sha, bytes: &[u8]) -> Answer
 }
 
 // The digest of the bytes taken in; refused if there are over 131,072. Nothing in the object changes.
-pub fn finish(state: &Sha) -> Bytes32
+pub fn finish(state: &Sha) -> Result<[u8; DIGEST], Refusal>
     ensures { P.Finishes state.now result }
 {
     Sha::finish(*state)
 }
 
-// A local of its own is lent, and handed back.
-fn lend_start(state: Sha) -> Sha
-    ensures { P.Starts result }
-{
-    let mut lent = state;
-    start(&mut lent);
-    lent
-}
-
-fn lend_take_in(state: Sha, bytes: &[u8]) -> Taken
-    ensures { P.TakesIn state bytes.now result.state result.answer }
-{
-    let mut lent = state;
-    let answer = take_in(&mut lent, bytes);
-    Taken {
-        answer,
-        state: lent,
-    }
-}
-
-fn lend_finish(state: Sha) -> Finished
-    ensures { P.FinishesLent state result }
-{
-    let lent = state;
-    let digest = finish(&lent);
-    Finished {
-        digest,
-        state: lent,
-    }
-}
-
 // The same three for callers that have no object to lend: it is made of these fields, lent, and handed back.
+// They keep three parameters, since docs/ASSURANCE.md and the edit taken_in_by_another_object speak of the fields.
 pub fn start_with_fields(words: [u32; 8], block: [u8; 64], total: u64) -> Sha
     ensures { P.Starts result }
 {
-    let object = Sha {
+    let mut object = Sha {
         words,
         block,
         total,
     };
-    lend_start(object)
+    start(&mut object);
+    object
 }
 
 pub fn take_in_with_fields(words: [u32; 8], block: [u8; 64], total: u64, bytes: &[u8]) -> Taken
     ensures { P.TakesIn (P.object words block total) bytes.now result.state result.answer }
 {
-    let object = Sha {
+    let mut object = Sha {
         words,
         block,
         total,
     };
-    lend_take_in(object, bytes)
+    let answer = take_in(&mut object, bytes);
+    Taken {
+        answer,
+        state: object,
+    }
 }
 
 pub fn finish_with_fields(words: [u32; 8], block: [u8; 64], total: u64) -> Finished
@@ -110,5 +86,9 @@ pub fn finish_with_fields(words: [u32; 8], block: [u8; 64], total: u64) -> Finis
         block,
         total,
     };
-    lend_finish(object)
+    let digest = finish(&object);
+    Finished {
+        digest,
+        state: object,
+    }
 }

@@ -3,29 +3,26 @@ use mathlib.Core.Path.{◌≡◌, refl, ap, sym}
 use Prim.Native.Nat.{ℕ}
 use native.Mathlib.Omega.{arith}
 use lib.ListN.{length}
-use Rattle.refusal.specs.Answers.{told}
-use Rattle.refusal.proofs.Settled.{row_settled}
+use Rattle.refusal.specs.Answers.{Answer, told}
+use Rattle.refusal.proofs.Settled.{refusal_settled}
 use Rattle.refusal.specs.declared.Refusal.{Refusal}
-use Rattle.refusal.specs.declared.Answer.{Answer}
-use Rattle.refusal.specs.declared.Answer.TheVariants.{Done, Refused}
 use Rattle.rules.specs.declared.Monitor.{Monitor}
 use Rattle.monitor.specs.declared.Totals.{Totals}
-use Rattle.monitor.specs.declared.Stepped.TheVariants as stepped
-use Rattle.monitor.specs.declared.Traced.TheVariants as traced
 use Rattle.monitor.specs.Promises.{totals_values, traced_row, remembered, stepped_row}
 use Rattle.monitor.proofs.Settled.{monitor_settled, traced_row_settled}
+use Rattle.std.specs.Prelude.{Err, Ok}
 
-pub traced_judged : (a : Answer) (t u : Totals) → traced_row (traced.Judged t) ≡ told a (totals_values u) → (a ≡ Done)
+pub traced_judged : (a : Answer) (t u : Totals) → traced_row (Ok t) ≡ told a (totals_values u) → (a ≡ Ok tt)
     × (t ≡ u)
-traced_judged Done t u e = (refl, cc (traced_row_settled (traced.Judged t) (traced.Judged u) e))
-traced_judged (Refused f) t u e = absurd (let z : ◌≡◌ {A = ℕ} 0 1 = cc in omega arith)
+traced_judged (Ok _) t u e = (refl, cc (traced_row_settled (Ok t) (Ok u) e))
+traced_judged (Err f) t u e = absurd (cc)
 
-pub traced_refused : (a : Answer) (q : Refusal) (u : Totals) → traced_row (traced.Refused q) ≡ told a (totals_values u)
-    → a ≡ Refused q
-traced_refused Done q u e = absurd (let z : ◌≡◌ {A = ℕ} 2 3 = ap length e in omega arith)
-traced_refused (Refused f) q u e = row_settled (Refused f) (Refused q) (sym e)
+pub traced_refused : (a : Answer) (q : Refusal) (u : Totals) → traced_row (Err q) ≡ told a (totals_values u)
+    → a ≡ Err q
+traced_refused (Ok _) q u e = absurd (let z : ◌≡◌ {A = ℕ} 2 3 = ap length e in omega arith)
+traced_refused (Err f) q u e = ap Err (refusal_settled f q (sym e))
 
-pub stepped_judged : (a : Answer) (m n : Monitor) → stepped_row (stepped.Judged m) ≡ told a (remembered n) → (a ≡ Done)
+pub stepped_judged : (a : Answer) (m n : Monitor) → stepped_row (Ok m) ≡ told a (remembered n) → (a ≡ Ok tt)
     × (m ≡ n)
-stepped_judged Done m n e = (refl, monitor_settled m n (cc))
-stepped_judged (Refused f) m n e = absurd (let z : ◌≡◌ {A = ℕ} 0 1 = cc in omega arith)
+stepped_judged (Ok _) m n e = (refl, monitor_settled m n (cc))
+stepped_judged (Err f) m n e = absurd (cc)

@@ -7,6 +7,7 @@ use native.Mathlib.Omega.{arith}
 use native.Mathlib.Numerals.{add-one}
 use lib.ListN.{length, drop}
 use lib.Seq.{take_at, drop_at, drop-drop}
+use mir.Val.{bool_byte}
 use Rattle.notions.specs.Choice.{pick}
 use Rattle.layout.specs.declared.Layout.{Layout}
 use Rattle.steps.specs.declared.Step.{Step}
@@ -92,6 +93,11 @@ module _ (l : Layout) (b memory₀ room₀ : List ℕ) (i : ℕ) (memory room : 
             ∙ ap (λ (q : ℕ). resetting l (steps b) (begin memory₀) i + q)
             (ek ∙ ap (λ (q : ℕ). pick (is_reset q) 1 0) same_cause);
       })
+
+-- a test as a number
+pub one_if : (t : Bool) → bool_byte t ≡ pick t 1 0
+one_if true = refl
+one_if false = refl
 
 pub one_most : (t : Bool) → pick t 1 0 ≤ 1
 one_most true = omega arith

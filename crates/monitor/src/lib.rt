@@ -2,7 +2,6 @@
 #![tactic(auto)]
 
 ghost use Rattle.std.specs.Prelude.{◌≡◌, ◌+◌, ◌*◌, ◌≤◌, length};
-ghost use Rattle.notions.specs.Choice.{pick};
 ghost use Rattle.effects.specs.Effects as E;
 ghost use Rattle.traces.specs.Traces as T;
 ghost use Rattle.monitor.specs.Runs as R;
@@ -10,8 +9,8 @@ ghost use Rattle.monitor.specs.Inner as I;
 ghost use Rattle.monitor.specs.Promises as P;
 
 use effects::StepAnswer;
-use layout::{Checked, Layout};
-use refusal::Refusal;
+use layout::Layout;
+use refusal::{Reason, Refusal};
 use rules::Monitor;
 use traces::{ANSWER, STEP};
 
@@ -28,33 +27,13 @@ struct Outcome {
     monitor: Monitor,
 }
 
-#[derive(Clone, Copy)]
-pub enum Stepped {
-    Judged(Monitor),
-    Refused(Refusal),
-}
-
-#[derive(Clone, Copy)]
-pub enum Traced {
-    Judged(Totals),
-    Refused(Refusal),
-}
-
 // The four answer bytes, at a place of the room.
 fn put_answer(room: &mut [u8], at: usize, a: StepAnswer)
     requires { at + T.answer_size ≤ length room.old }
     ensures { room.new ≡ I.replaced room.old at T.answer_size (E.bytes a) }
 {
-    room[at] = a.cause;
-    room[at + 1] = a.exposed;
-    room[at + 2] = a.cpubyte;
-    room[at + 3] = a.dmabyte;
-}
-
-fn one_if(resets: bool) -> usize
-    ensures { result ≡ pick resets 1 0 }
-{
-    if resets { 1 } else { 0 }
+    let bytes = [a.cause, a.exposed, a.cpubyte, a.dmabyte];
+    room[at..at + ANSWER].copy_from_slice(&bytes);
 }
 
 // Step i of a trace: its decision, its stores, and its answer at its place of the room.
@@ -94,47 +73,49 @@ fn run(l: Layout, trace: &[u8], memory: &mut [u8], room: &mut [u8]) -> Totals
         lastpc: 0,
     };
     let mut resets: usize = 0;
-    let mut i: usize = 0;
-    while i < steps {
+    for i in 0..steps {
         let j = run_step(l, m, trace, i, memory, room);
         m = j.monitor;
-        resets += one_if(j.answer.cause != 0);
-        i += 1;
+        resets += usize::from(j.answer.cause != 0);
     }
     Totals { steps, resets }
 }
 
+// Layout, trace, memory and room go side by side through these functions: the public ones have them as parameters.
+
 // The run alone, for a call that has checked the layout and the steps by itself. A refused call changes nothing.
-pub fn run_with(l: Layout, trace: &[u8], memory: &mut [u8], room: &mut [u8]) -> Traced
+pub fn run_with(
+    l: Layout,
+    trace: &[u8],
+    memory: &mut [u8],
+    room: &mut [u8],
+) -> Result<Totals, Refusal>
     ensures { P.Runs l trace.now memory.old room.old
         memory.new room.new result }
 {
     if memory.len() != layout::MEMORY_BYTES {
-        return Traced::Refused(Refusal {
-            number: refusal::MEMORY_SIZE,
-            place: 0,
-        });
+        return Err(Reason::MemorySize.into());
     }
     if room.len() < ANSWER * (trace.len() / STEP) {
-        return Traced::Refused(Refusal {
-            number: refusal::ROOM_SIZE,
-            place: 0,
-        });
+        return Err(Reason::RoomSize.into());
     }
-    Traced::Judged(run(l, trace, memory, room))
+    Ok(run(l, trace, memory, room))
 }
 
 // Judges a trace on lent memory, from the monitor's start, and puts four answer bytes a step into the room.
 // A refused call changes nothing.
-pub fn trace(memory: &mut [u8], layout: &[u8], trace: &[u8], room: &mut [u8]) -> Traced
+pub fn trace(
+    memory: &mut [u8],
+    layout: &[u8],
+    trace: &[u8],
+    room: &mut [u8],
+) -> Result<Totals, Refusal>
     ensures { P.Traces memory.old layout.now trace.now room.old
         memory.new room.new result }
 {
     let rest = traces::fits(trace, room.len());
-    match layout::admit(memory, layout, rest) {
-        Checked::Good(l) => run_with(l, trace, memory, room),
-        Checked::Refused(r) => Traced::Refused(r),
-    }
+    let l = layout::admit(memory, layout, rest)?;
+    run_with(l, trace, memory, room)
 }
 
 // Judges one step on lent memory, from whatever the monitor remembers, and hands back what it then remembers.
@@ -145,17 +126,11 @@ pub fn step(
     step: &[u8],
     monitor: Monitor,
     room: &mut [u8],
-) -> Stepped
+) -> Result<Monitor, Refusal>
     ensures { P.Steps memory.old layout.now step.now monitor room.old
         memory.new room.new result }
 {
     let rest = traces::step_fits(step, room.len());
-    match layout::admit(memory, layout, rest) {
-        Checked::Good(l) => {
-            let j = run_step(l, monitor, step, 0, memory, room);
-            let after = j.monitor;
-            Stepped::Judged(after)
-        }
-        Checked::Refused(r) => Stepped::Refused(r),
-    }
+    let l = layout::admit(memory, layout, rest)?;
+    Ok(run_step(l, monitor, step, 0, memory, room).monitor)
 }

@@ -5,8 +5,9 @@ use Prim.Native.Nat.{ℕ, zero, suc, ◌+◌, ◌≤◌, ◌<◌}
 use native.Mathlib.Nat.{not-suc-le-zero, le_of_suc-le-suc}
 use native.Mathlib.Omega.{arith}
 use lib.Dec.{ltb}
-use borrow.Author.Tests.{ltb-true, ltb-false, le-ltb}
-use Rattle.notions.specs.First.{first}
+use borrow.Author.Tests.{ltb-true, ltb-false, le-ltb, lt-ltb}
+use Rattle.std.specs.Prelude.{Option, Some, None, MatchOption}
+use Rattle.notions.specs.First.{first, found}
 use Rattle.notions.proofs.Tests.{cases}
 
 pub first_most : (n : ℕ) (p : ℕ → Bool) → first n p ≤ n
@@ -83,3 +84,20 @@ passed_found s h e = sym (first_is _ _ _ h s.none e)
 
 pub passed_all : {n : ℕ} {p : ℕ → Bool} {k : ℕ} → Passed n p k → n ≤ k → k ≡ first n p
 passed_all {n} {p} {k} s h = omega (arith, first_none n p (λ j l. s.none j (omega arith)))
+
+-- what `find` over a range from 0 on answers, in the words of `first_from_Range`
+pub found_in_range : (n : ℕ) (p : ℕ → Bool) (r : Option ℕ)
+    → MatchOption r ((k : ℕ) → 0 ≤ k → k < n → p k ≡ false)
+    (λ i. (0 ≤ i) × (i < n) × (p i ≡ true) × ((k : ℕ) → 0 ≤ k → k < i → p k ≡ false))
+    → r ≡ found n p
+found_in_range n p None h = simp (found_none n p (λ k l. h k (omega arith) l))
+found_in_range n p (Some i) h =
+    let e : first n p ≡ i = first_is n p i h.1 (λ k l. h.3 k (omega arith) l) h.2 in
+    simp (e, lt-ltb i n h.1)
+
+-- what a search that has found one, or none, says of the first
+pub found_some : (n : ℕ) (p : ℕ → Bool) (k : ℕ) → found n p ≡ Some k → (ltb (first n p) n ≡ true) × (k ≡ first n p)
+found_some n p k e = cases (ltb (first n p) n) (λ t. (t, let z = simp t at e in cc)) (λ t. absurd (let z = simp t at e in cc))
+
+pub found_nothing : (n : ℕ) (p : ℕ → Bool) → found n p ≡ None → ltb (first n p) n ≡ false
+found_nothing n p e = cases (ltb (first n p) n) (λ t. absurd (let z = simp t at e in cc)) (λ t. t)

@@ -14,6 +14,15 @@ sets_append (x ∷ a) b l i =
     let e : i + suc (length a) ≡ suc i + length a = omega arith in
     rw e (sets_append a b (set l i x) (suc i))
 
+-- a part is laid; `goal` is the buffer that what is still to be laid leads to
+pub part_more : (out out' goal a b : List ℕ) (p q : ℕ) → sets out p (a ++ b) ≡ goal → out' ≡ sets out p a → q ≡ p + length a
+    → sets out' q b ≡ goal
+part_more out out' goal a b p q e l n =
+    ap (λ (k : ℕ). sets out' k b) n
+    ∙ ap (λ (o : List ℕ). sets o (p + length a) b) l
+    ∙ sets_append a b out p
+    ∙ e
+
 sets_nil : (i : ℕ) (t : List ℕ) → sets [] i t ≡ []
 sets_nil i [] = refl
 sets_nil i (a ∷ t) = sets_nil (suc i) t

@@ -16,10 +16,6 @@ pub record ReadsNumber (b : List ℕ) (from k r : ℕ) : Type 0 where
   pub value : r ≡ number_at b from (min k number_bytes)
   pub small : r < 256 ^ min k number_bytes
 
--- `least`
-abbrev pub IsLeast : ℕ → ℕ → ℕ → Type 0
-IsLeast a b r = r ≡ min a b
-
 -- `store`: the bytes x stand from a place on, as many as fit, and what stands beside them stays
 abbrev pub Stores : List ℕ → ℕ → List ℕ → List ℕ → Type 0
 Stores room at x room' = room' ≡ sets room at x

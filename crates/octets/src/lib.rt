@@ -12,25 +12,17 @@ const NUMBER_BYTES: usize = 8;
 pub fn number_of_two(low: u8, high: u8) -> u16
     ensures { P.IsNumberOfTwo low high result }
 {
-    low as u16 + 256 * (high as u16)
+    u16::from_le_bytes([low, high])
 }
 
-fn as_u64(x: u8) -> u64
-    ensures { (result ≡ x) × (result < 256) }
-{
-    x as u64
-}
-
-// The number of at most eight bytes.
+// The number of at most eight bytes. The library's `from_le_bytes` is of eight and no fewer: these would be copied first.
 fn short_number(bytes: &[u8]) -> u64
     requires { length bytes.now ≤ N.number_bytes }
     ensures { (result ≡ N.number bytes.now) × (result < 256 ^ length bytes.now) }
 {
     let mut n: u64 = 0;
-    let mut i = bytes.len();
-    while i > 0 {
-        i -= 1;
-        n = 256 * n + as_u64(bytes[i]);
+    for b in bytes.iter().rev() {
+        n = 256 * n + u64::from(*b);
     }
     n
 }
@@ -40,28 +32,15 @@ fn short_number_at(bytes: &[u8], from: usize, k: usize) -> u64
     requires { k ≤ N.number_bytes }
     ensures { (result ≡ N.number_at bytes.now from k) × (result < 256 ^ k) }
 {
-    let n = bytes.len();
-    if n <= from {
-        return 0;
-    }
-    if n - from < k {
-        return short_number(&bytes[from..n]);
-    }
-    short_number(&bytes[from..from + k])
-}
-
-// The smaller of two numbers.
-pub fn least(a: usize, b: usize) -> usize
-    ensures { P.IsLeast a b result }
-{
-    if a < b { a } else { b }
+    let behind = bytes.get(from..).unwrap_or(&[]);
+    short_number(&behind[..k.min(behind.len())])
 }
 
 // The number of k bytes from a place on, or of those of them that there are. Over eight count as eight.
 pub fn number_at(bytes: &[u8], from: usize, k: usize) -> u64
     ensures { P.ReadsNumber bytes.now from k result }
 {
-    short_number_at(bytes, from, least(k, NUMBER_BYTES))
+    short_number_at(bytes, from, k.min(NUMBER_BYTES))
 }
 
 // The number of the first eight bytes, or of those of them that there are.
@@ -78,6 +57,6 @@ pub fn store(room: &mut [u8], at: usize, x: &[u8])
     if room.len() <= at {
         return;
     }
-    let k = least(room.len() - at, x.len());
+    let k = (room.len() - at).min(x.len());
     room[at..at + k].copy_from_slice(&x[..k]);
 }

@@ -1,16 +1,13 @@
 -- The promises settle the answer, the place and what the reader holds. Assumes nothing.
-use Rattle.std.specs.Prelude.{◌≡◌, refl, List, ℕ, length}
-use Rattle.std.proofs.Common.{ap, sym, ◌∙◌, arith}
+use Rattle.std.specs.Prelude.{◌≡◌, refl, List, ℕ, Some, None, Ok, Err}
+use Rattle.std.proofs.Common.{ap, sym, ◌∙◌}
 use Rattle.std.specs.Borrow.{Bor}
-use Rattle.refusal.proofs.Settled.{row_settled}
+use Rattle.refusal.proofs.Settled.{refusal_settled}
 use Rattle.notions.proofs.Settled.{flag_settled}
-use Rattle.refusal.specs.declared.Answer.TheVariants as call
 use Rattle.steps.specs.declared.Step.{Step}
-use Rattle.reader.specs.declared.Read.{Read}
-use Rattle.reader.specs.declared.Read.TheVariants as read
 use Rattle.reader.specs.declared.Advance.{Advance}
 use Rattle.reader.specs.declared.StepReader.{StepReader}
-use Rattle.reader.specs.Reading.{step_values, read_row}
+use Rattle.reader.specs.Reading.{Read, step_values, read_row}
 use Rattle.reader.specs.Promises.{ReadsAt, Advances, Begins, Reads}
 
 -- ---- a row settles what is read
@@ -41,15 +38,15 @@ step_settled s t e =
     }
 
 pub read_row_settled : (r q : Read) → read_row r ≡ read_row q → r ≡ q
-read_row_settled (read.Step s) (read.Step t) e = ap read.Step (step_settled s t (cc))
-read_row_settled (read.Step s) read.End e = absurd (let z : ◌≡◌ {A = ℕ} 11 1 = ap length e in omega arith)
-read_row_settled (read.Step s) (read.Refused q) e = absurd (let z : ◌≡◌ {A = ℕ} 11 2 = ap length e in omega arith)
-read_row_settled read.End (read.Step t) e = absurd (let z : ◌≡◌ {A = ℕ} 1 11 = ap length e in omega arith)
-read_row_settled read.End read.End e = refl
-read_row_settled read.End (read.Refused q) e = absurd (let z : ◌≡◌ {A = ℕ} 1 2 = ap length e in omega arith)
-read_row_settled (read.Refused r) (read.Step t) e = absurd (let z : ◌≡◌ {A = ℕ} 2 11 = ap length e in omega arith)
-read_row_settled (read.Refused r) read.End e = absurd (let z : ◌≡◌ {A = ℕ} 2 1 = ap length e in omega arith)
-read_row_settled (read.Refused r) (read.Refused q) e = cc (row_settled (call.Refused r) (call.Refused q) e)
+read_row_settled (Ok (Some s)) (Ok (Some t)) e = ap (λ (x : Step). Ok (Some x)) (step_settled s t (cc))
+read_row_settled (Ok (Some s)) (Ok None) e = absurd (cc)
+read_row_settled (Ok (Some s)) (Err q) e = absurd (cc)
+read_row_settled (Ok None) (Ok (Some t)) e = absurd (cc)
+read_row_settled (Ok None) (Ok None) e = refl
+read_row_settled (Ok None) (Err q) e = absurd (cc)
+read_row_settled (Err r) (Ok (Some t)) e = absurd (cc)
+read_row_settled (Err r) (Ok None) e = absurd (cc)
+read_row_settled (Err r) (Err q) e = ap Err (refusal_settled r q e)
 
 -- ---- two outcomes that meet the promise for the same inputs are equal
 

@@ -1,10 +1,9 @@
 -- What the functions of the step reader promise, for all inputs. Assumes nothing.
 use Rattle.std.specs.Prelude.{◌≡◌, List, ℕ}
 use Rattle.std.specs.Borrow.{Bor}
-use Rattle.reader.specs.declared.Read.{Read}
 use Rattle.reader.specs.declared.Advance.{Advance}
 use Rattle.reader.specs.declared.StepReader.{StepReader}
-use Rattle.reader.specs.Reading.{read_at, place_after, read_row}
+use Rattle.reader.specs.Reading.{Read, read_at, place_after, read_row}
 
 -- `step_at`
 pub record ReadsAt (trace : List ℕ) (place : ℕ) (r : Read) : Type 0 where

@@ -1,10 +1,9 @@
 // A reader of a trace: it holds the trace's bytes and the number of the step that is next.
-// The functions over it are thin. What they answer is worked out by `read_on`, on the bytes and the number.
 #![tactic(auto)]
 
 ghost use Rattle.reader.specs.Promises as P;
 
-use refusal::Refusal;
+use refusal::{Reason, Refusal};
 use steps::Step;
 
 #[derive(Clone, Copy)]
@@ -13,57 +12,28 @@ pub struct StepReader<'a> {
     pub place: usize,
 }
 
-// What the reader answers: a step, the end, or refusal 7 or 9.
-#[derive(Clone, Copy)]
-pub enum Read {
-    Step(Step),
-    End,
-    Refused(Refusal),
-}
-
-// What is read at a place, and the place after it.
+// What is read at a place, and the place after it: the promise `Advances` is of both.
 #[derive(Clone, Copy)]
 pub struct Advance {
-    pub read: Read,
+    pub read: Result<Option<Step>, Refusal>,
     pub place: usize,
 }
 
-// What stands at a place of a trace.
-pub fn step_at(trace: &[u8], place: usize) -> Read
+// What stands at a place of a trace: a step, the end, or refusal 7 or 9.
+pub fn step_at(trace: &[u8], place: usize) -> Result<Option<Step>, Refusal>
     ensures { P.ReadsAt trace.now place result }
 {
     if traces::misfits(trace) {
-        return Read::Refused(Refusal {
-            number: refusal::TRACE_SIZE,
-            place: 0,
-        });
+        return Err(Reason::TraceSize.into());
     }
     if trace.len() / traces::STEP <= place {
-        return Read::End;
+        return Ok(None);
     }
     let bytes = traces::step_record(trace, place);
     if !steps::clean(bytes) {
-        return Read::Refused(Refusal {
-            number: refusal::STEP_NOT_ZERO,
-            place,
-        });
+        return Err(Reason::StepNotZero.at(place));
     }
-    Read::Step(steps::decode(bytes))
-}
-
-// Only handing out a step moves the place.
-fn read_on(trace: &[u8], at: usize) -> Advance
-    ensures { P.Advances trace.now at result }
-{
-    let read = step_at(trace, at);
-    match read {
-        Read::Step(_) => Advance {
-            read,
-            place: at + 1,
-        },
-        Read::End => Advance { read, place: at },
-        Read::Refused(_) => Advance { read, place: at },
-    }
+    Ok(Some(steps::decode(bytes)))
 }
 
 impl<'a> StepReader<'a> {
@@ -74,17 +44,21 @@ impl<'a> StepReader<'a> {
         StepReader { trace, place: 0 }
     }
 
-    // What stands at the reader's place.
-    pub fn next(&mut self) -> Read
+    // What stands at the reader's place. Only handing out a step moves the place.
+    // No `Iterator`: a refusal leaves the place, so that its `next` would give the same refusal without end.
+    pub fn next(&mut self) -> Result<Option<Step>, Refusal>
         ensures { P.Reads self.old self.new result }
     {
-        let a = read_on(self.trace, self.place);
-        self.place = a.place;
-        a.read
+        let read = step_at(self.trace, self.place)?;
+        if let Some(_) = read {
+            self.place += 1;
+        }
+        Ok(read)
     }
 }
 
-// The same without a reader in hand: one is made, put at this place, lent to `next`, and asked for its place.
+// The same without a reader in hand: one is made, put at this place, lent to `next`, and asked for its place. The edits
+// next_at_from_0 and next_at_keeps_the_place are of this function.
 pub fn next_at(trace: &[u8], place: usize) -> Advance
     ensures { P.Advances trace.now place result }
 {

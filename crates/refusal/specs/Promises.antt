@@ -1,17 +1,17 @@
 -- What the functions of this crate promise, for all inputs. Assumes nothing.
-use Rattle.std.specs.Prelude.{◌≡◌, List, ℕ}
-use Rattle.refusal.specs.declared.Answer.{Answer}
-use Rattle.refusal.specs.Answers.{row, refused_with, refused_at}
-use Rattle.refusal.specs.Numbers.{numbers}
+use Rattle.std.specs.Prelude.{◌≡◌, ℕ}
+use Rattle.refusal.specs.declared.Reason.{Reason}
+use Rattle.refusal.specs.declared.Refusal.{Refusal}
+use Rattle.refusal.specs.Numbers.{number}
 
--- `refused`: with this number, at no named place
-abbrev pub RefusesWith : ℕ → Answer → Type 0
-RefusesWith n r = row r ≡ refused_with n
+-- `Reason::number`: the page's
+abbrev pub IsNumber : Reason → ℕ → Type 0
+IsNumber n r = r ≡ number n
 
--- `refused_at`: with this number, at this place
-abbrev pub RefusesAt : ℕ → ℕ → Answer → Type 0
-RefusesAt n p r = r ≡ refused_at n p
+-- `Reason::at`: for this reason, at this place
+abbrev pub RefusesAt : Reason → ℕ → Refusal → Type 0
+RefusesAt n p r = r ≡ record { reason = n; place = p }
 
--- `numbers`: the page's, in its order
-abbrev pub ListsNumbers : List ℕ → Type 0
-ListsNumbers r = r ≡ numbers
+-- `Refusal::from`: for this reason, at no named place
+abbrev pub RefusesWith : Reason → Refusal → Type 0
+RefusesWith n r = RefusesAt n 0 r

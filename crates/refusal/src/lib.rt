@@ -1,85 +1,74 @@
-// A refusal of the rules page, the page's refusal numbers under names, and the answer of a call that is done or refused.
+// A refusal of the rules page: why, by the page's numbers, and where.
 #![tactic(auto)]
 
+ghost use Rattle.std.specs.Prelude.{Some};
 ghost use Rattle.refusal.specs.Promises as P;
+ghost use Rattle.refusal.specs.Text.{text_of};
+
+use std::fmt;
+
+// Why a call is refused, with the page's number.
+#[derive(Clone, Copy, Debug, PartialEq, Eq)]
+pub enum Reason {
+    MemorySize = 1,
+    LayoutSize = 2,
+    RegionReversed = 3,
+    RegionSize = 4,
+    ZeroInCode = 5,
+    RegionsShare = 6,
+    TraceSize = 7,
+    RoomSize = 8,
+    StepNotZero = 9,
+    ChallengeNotGreater = 10,
+    TokenDiffers = 11,
+    LengthOrTotal = 12,
+    Contents = 13,
+    Segment = 14,
+    FileSize = 15,
+}
 
 // What was refused, and where: the place is 0 unless the page names one.
-#[derive(Clone, Copy)]
+#[derive(Clone, Copy, Debug, PartialEq, Eq)]
 pub struct Refusal {
-    pub number: u8,
+    pub reason: Reason,
     pub place: usize,
 }
 
-// The answer of a call whose values, if it has any, stand beside this in an array or a state.
-#[derive(Clone, Copy)]
-pub enum Answer {
-    Done,
-    Refused(Refusal),
+impl Reason {
+    // The page's number.
+    pub fn number(self) -> u8
+        ensures { P.IsNumber self result }
+    {
+        self as u8
+    }
+
+    // Refused at a place.
+    pub fn at(self, place: usize) -> Refusal
+        ensures { P.RefusesAt self place result }
+    {
+        Refusal {
+            reason: self,
+            place,
+        }
+    }
 }
 
-// Refused with a number for which the page names no place.
-pub fn refused(number: u8) -> Answer
-    ensures { P.RefusesWith number result }
-{
-    Answer::Refused(Refusal { number, place: 0 })
+// Refused where the page names no place.
+impl From<Reason> for Refusal {
+    ghost from_gives = { P.RefusesWith };
+
+    fn from(reason: Reason) -> Refusal {
+        Refusal { reason, place: 0 }
+    }
 }
 
-// Refused with a number at a place.
-pub fn refused_at(number: u8, place: usize) -> Answer
-    ensures { P.RefusesAt number place result }
-{
-    Answer::Refused(Refusal { number, place })
-}
+// As the programs print it.
+impl fmt::Display for Refusal {
+    ghost output = { λ r. Some (text_of r) };
 
-pub const MEMORY_SIZE: u8 = 1;
-
-pub const LAYOUT_SIZE: u8 = 2;
-
-pub const REGION_REVERSED: u8 = 3;
-
-pub const REGION_SIZE: u8 = 4;
-
-pub const ZERO_IN_CODE: u8 = 5;
-
-pub const REGIONS_SHARE: u8 = 6;
-
-pub const TRACE_SIZE: u8 = 7;
-
-pub const ROOM_SIZE: u8 = 8;
-
-pub const STEP_NOT_ZERO: u8 = 9;
-
-pub const CHALLENGE_NOT_GREATER: u8 = 10;
-
-pub const TOKEN_DIFFERS: u8 = 11;
-
-pub const LENGTH_OR_TOTAL: u8 = 12;
-
-pub const CONTENTS: u8 = 13;
-
-pub const SEGMENT: u8 = 14;
-
-pub const FILE_SIZE: u8 = 15;
-
-// The constants in the page's order. Its contract ties each of them to the name that specs/ has for it.
-pub fn numbers() -> [u8; 15]
-    ensures { P.ListsNumbers result }
-{
-    [
-        MEMORY_SIZE,
-        LAYOUT_SIZE,
-        REGION_REVERSED,
-        REGION_SIZE,
-        ZERO_IN_CODE,
-        REGIONS_SHARE,
-        TRACE_SIZE,
-        ROOM_SIZE,
-        STEP_NOT_ZERO,
-        CHALLENGE_NOT_GREATER,
-        TOKEN_DIFFERS,
-        LENGTH_OR_TOTAL,
-        CONTENTS,
-        SEGMENT,
-        FILE_SIZE,
-    ]
+    fn fmt<W: fmt::Write>(&self, f: &mut fmt::Formatter<W>) -> fmt::Result {
+        let number = self.reason.number();
+        let place = self.place;
+        write!(f, "refused {number} {place}")
+    }
 }

@@ -1,9 +1,8 @@
 -- Decimal numbers: the digits that the code counts are the ones that the text names, and how many there are.
 -- Assumes nothing.
-use mathlib.Core.Path.{◌≡◌, refl, ap, sym, subst, ◌∙◌}
+use mathlib.Core.Path.{◌≡◌, refl, ap, sym, subst}
 use mathlib.Core.Logic.{⊎_elim}
 use mathlib.Core.Bool.{Bool, false}
-use mathlib.Core.List.{List}
 use Prim.Native.Nat.{ℕ, zero, suc, ◌-◌, ◌^◌, ◌≤◌, ◌<◌}
 use native.Mathlib.Nat.{eq-or-lt_of_le, pow-le-pow_right, le_trans}
 use native.Mathlib.Numerals.{add-one}
@@ -16,7 +15,6 @@ use Rattle.notions.specs.First.{first}
 use Rattle.notions.proofs.Tests.{cases}
 use Rattle.notions.proofs.First.{first_most, first_least, first_is, first_none}
 use Rattle.report.specs.Text.{places, decimal}
-use Rattle.report.specs.Inner.{Wrote}
 
 fewest : (n j : ℕ) → IsDigitCount 10 1 n (suc j) → j ≤ 19 → suc j ≡ places n
 unfolding places
@@ -36,20 +34,8 @@ places_are : (n k : ℕ) → IsDigitCount 10 1 n k → k ≤ 20 → k ≡ places
 places_are n zero f h = absurd (omega (arith, f.0))
 places_are n (suc j) f h = fewest n j f (omega arith)
 
--- the text of the fewest digits is the decimal number
-pub spelled : (n k : ℕ) (o o' t : List ℕ) (at r : ℕ) → IsDigitCount 10 1 n k → k ≤ 20 → t ≡ last_digits 10 k n → Wrote o o' at t r
-    → Wrote o o' at (decimal n) r
-unfolding decimal
-spelled n k o o' t at r f h e w =
-    subst (λ (s : List ℕ). Wrote o o' at s r) (e ∙ ap (λ (m : ℕ). last_digits 10 m n) (places_are n k f h)) w
-
--- and that of a byte its two hexadecimal digits
-pub spelled_hex : (n k : ℕ) (o o' t : List ℕ) (at r : ℕ) → k ≡ 2 → t ≡ last_digits 16 k n → Wrote o o' at t r
-    → Wrote o o' at (last_digits 16 2 n) r
-spelled_hex n k o o' t at r h e w = subst (λ (s : List ℕ). Wrote o o' at s r) (e ∙ ap (λ (m : ℕ). last_digits 16 m n) h) w
-
 -- a 64-bit number has at most 20 digits
-pub twenty : (n k : ℕ) → IsDigitCount 10 1 n k → n < 18446744073709551616 → k ≤ 20
+twenty : (n k : ℕ) → IsDigitCount 10 1 n k → n < 18446744073709551616 → k ≤ 20
 twenty n k f h =
     cases (leb k 20) (λ e. leb-true k 20 e)
     (λ e.
@@ -58,6 +44,11 @@ twenty n k f h =
     let q : 10 ^ (k - 1) ≤ n = f.2 (omega arith) in
     let z : 100000000000000000000 ≤ n = le_trans p q in
     absurd (omega arith))
+
+-- so the text of the fewest digits is the decimal number
+pub spelled : (n k : ℕ) → IsDigitCount 10 1 n k → n < 18446744073709551616 → last_digits 10 k n ≡ decimal n
+unfolding decimal
+spelled n k f h = ap (λ (m : ℕ). last_digits 10 m n) (places_are n k f (twenty n k f h))
 
 -- ---- lengths
 

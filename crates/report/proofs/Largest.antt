@@ -11,8 +11,7 @@ use lib.Seq.{take_all, take_at}
 use borrow.Author.Tests.{ltb-true, ltb-false}
 use Rattle.notions.specs.Choice.{pick}
 use Rattle.refusal.specs.declared.Refusal.{Refusal}
-use Rattle.refusal.specs.declared.Answer.{Answer}
-use Rattle.refusal.specs.declared.Answer.TheVariants.{Done, Refused}
+use Rattle.refusal.specs.Numbers.{number}
 use Rattle.notions.proofs.Tests.{cases}
 use Rattle.layout.specs.declared.Layout.{Layout}
 use Rattle.steps.specs.declared.Step.{Step}
@@ -33,6 +32,8 @@ use Rattle.report.specs.Text.{places, shown, cpu_shown, dma_shown, line, lines, 
 use Rattle.report.specs.Text.{printed, file_text}
 use Rattle.report.specs.Promises.{Writes}
 use Rattle.report.proofs.Decimal.{length_digits, length_decimal, places_most, places_twenty}
+use Rattle.std.specs.Prelude.{Err, Ok}
+use Rattle.refusal.specs.Answers.{Answer}
 
 -- ---- one line
 
@@ -133,7 +134,7 @@ length_totals t = simp (length-append, length_decimal) (omega arith)
 pub length_refused : (r : Refusal) → length (refused_line r) ≤ 50
 unfolding refused_line
 length_refused r =
-    simp (length-append, length_decimal) (omega (arith, places_twenty r.number, places_twenty r.place))
+    simp (length-append, length_decimal) (omega (arith, places_twenty (number r.reason), places_twenty r.place))
 
 -- a run of at most 4,092 steps
 pub run_most : (l : Layout) (t : ℕ → Step) (x : State) (n : ℕ) → n ≤ 4092
@@ -152,7 +153,7 @@ run_most l t x n h =
     ))
 
 -- of the 49,152 bytes of a file that passes, 48 are contents and layout
-pub steps_most : (f : List ℕ) → file_check f ≡ Done → count (file_trace f) ≤ 4092
+pub steps_most : (f : List ℕ) → file_check f ≡ Ok tt → count (file_trace f) ≤ 4092
 unfolding body
 steps_most f e =
     let s = sound f e in
@@ -161,10 +162,10 @@ steps_most f e =
 printed_most : (f memory room : List ℕ) (a : Answer) → judge_check f memory room ≡ a
     → length (printed a
     (judged_text (said (file_layout f) (steps (file_trace f)) (begin (file_memory f))) (file_totals f))) ≤ 52125
-printed_most f memory room Done e =
+printed_most f memory room (Ok _) e =
     let h = steps_most f (admitted f memory room e).contents in
     run_most (file_layout f) (steps (file_trace f)) (begin (file_memory f)) (count (file_trace f)) h
-printed_most f memory room (Refused r) e = omega (arith, length_refused r)
+printed_most f memory room (Err r) e = omega (arith, length_refused r)
 
 pub largest : (f memory room : List ℕ) → length (file_text f memory room) ≤ 52125
 largest f memory room = printed_most f memory room (judge_check f memory room) refl

@@ -6,15 +6,11 @@ use native.Mathlib.Nat.{add-zero}
 use native.Mathlib.Omega.{arith}
 use lib.ListN.{get_or, take, drop}
 use lib.Seq.{get_or-take, get_or-drop}
-use Rattle.refusal.specs.Answers.{told, after_call}
-use Rattle.refusal.specs.declared.Answer.{Answer}
-use Rattle.refusal.specs.declared.Answer.TheVariants as call
+use Rattle.refusal.specs.Answers.{Answer, told, after_call}
 use Rattle.layout.specs.declared.Layout.{Layout}
 use Rattle.steps.specs.declared.Step.{Step}
 use Rattle.effects.specs.declared.StepAnswer.{StepAnswer}
 use Rattle.monitor.specs.declared.Totals.{Totals}
-use Rattle.monitor.specs.declared.Traced.{Traced}
-use Rattle.monitor.specs.declared.Traced.TheVariants as traced
 use Rattle.effects.specs.Effects.{bytes}
 use Rattle.monitor.specs.Runs.{State, begin, said, answers, room_after, totals}
 use Rattle.traces.specs.Traces.{answer_size, count, steps}
@@ -23,6 +19,8 @@ use Rattle.monitor.proofs.Settled.{traced_row_settled}
 use Rattle.monitor.proofs.Laws.{answer_at_lem}
 use Rattle.report.specs.Text.{header, line, lines, totals_line, judged_text, printed}
 use Rattle.report.specs.Inner.{answer_at, text_of}
+use Rattle.std.specs.Prelude.{Err, Ok, Result}
+use Rattle.refusal.specs.declared.Refusal.{Refusal}
 
 -- ---- answers
 
@@ -35,11 +33,7 @@ byte_at room k j a e h =
 
 answer_is : (a : StepAnswer) (cause exposed cpu dma : ℕ) → cause ≡ a.cause → exposed ≡ a.exposed → cpu ≡ a.cpubyte
     → dma ≡ a.dmabyte → ◌≡◌ {A = StepAnswer} (record { cause = cause; exposed = exposed; cpubyte = cpu; dmabyte = dma }) a
-answer_is a cause exposed cpu dma e f g h =
-    ap (λ (x : ℕ). record { cause = x; exposed = exposed; cpubyte = cpu; dmabyte = dma }) e
-    ∙ ap (λ (x : ℕ). record { cause = a.cause; exposed = x; cpubyte = cpu; dmabyte = dma }) f
-    ∙ ap (λ (x : ℕ). record { cause = a.cause; exposed = a.exposed; cpubyte = x; dmabyte = dma }) g
-    ∙ ap (λ (x : ℕ). record { cause = a.cause; exposed = a.exposed; cpubyte = a.cpubyte; dmabyte = x }) h
+answer_is a cause exposed cpu dma e f g h = rw (e, f, g, h) refl
 
 -- the answer of step k that stands in the room is what step k answers
 pub answer_stands : (l : Layout) (t : ℕ → Step) (x : State) (n k : ℕ) (rest : List ℕ) → k < n
@@ -71,15 +65,14 @@ unfolding judged_text
 judged_same a b t f = ap (λ (l : List ℕ). header ++ l ++ totals_line t) (lines_same a b t.steps f)
 
 -- what is told of an answer, and of the room that it leaves, is what is printed of the run
-pub run_text : (l : Layout) (b memory room : List ℕ) (a : Answer) (o : Traced)
+pub run_text : (l : Layout) (b memory room : List ℕ) (a : Answer) (o : Result Totals Refusal)
     → traced_row o ≡ told a (totals_values (totals l b memory))
     → text_of o (after_call a (room_after l b memory room) room)
     ≡ printed a (judged_text (said l (steps b) (begin memory)) (totals l b memory))
-unfolding text_of
-run_text l b memory room call.Done o e =
+run_text l b memory room (Ok _) o e =
     let room' = room_after l b memory room in
-    ap (λ (x : Traced). text_of x room') (traced_row_settled o (traced.Judged (totals l b memory)) e)
+    ap (λ (x : Result Totals Refusal). text_of x room') (traced_row_settled o (Ok (totals l b memory)) e)
     ∙ judged_same (answer_at room') (said l (steps b) (begin memory)) (totals l b memory)
     (λ k h. answer_stands l (steps b) (begin memory) (count b) k _ h)
-run_text l b memory room (call.Refused r) o e =
-    ap (λ (x : Traced). text_of x room) (traced_row_settled o (traced.Refused r) e)
+run_text l b memory room (Err r) o e =
+    ap (λ (x : Result Totals Refusal). text_of x room) (traced_row_settled o (Err r) e)

@@ -1,16 +1,16 @@
 -- The text that `judge` prints, as bytes. Assumes nothing.
-use Rattle.std.specs.Prelude.{Bool, List, [], ◌∷◌, ◌++◌, ℕ, zero, suc, ◌/◌, ◌%◌, ◌^◌, ltb, eqb}
+use Rattle.std.specs.Prelude.{Bool, List, [], ◌∷◌, ◌++◌, ℕ, zero, suc, ◌/◌, ◌%◌, ◌^◌, ltb, eqb, Err, Ok}
 use Rattle.io.specs.Digits.{last_digits}
 use Rattle.notions.specs.Choice.{pick}
 use Rattle.notions.specs.First.{first}
 use Rattle.refusal.specs.declared.Refusal.{Refusal}
-use Rattle.refusal.specs.declared.Answer.{Answer}
-use Rattle.refusal.specs.declared.Answer.TheVariants.{Done, Refused}
+use Rattle.refusal.specs.Numbers.{number}
 use Rattle.effects.specs.declared.StepAnswer.{StepAnswer}
 use Rattle.monitor.specs.declared.Totals.{Totals}
 use Rattle.monitor.specs.Runs.{begin, said}
 use Rattle.traces.specs.Traces.{steps}
 use Rattle.runfile.specs.Promises.{file_layout, file_memory, file_trace, file_totals, judge_check}
+use Rattle.refusal.specs.Answers.{Answer}
 
 -- ---- fields, which stand one space apart
 
@@ -68,7 +68,7 @@ abbrev pub refused_word : List ℕ
 refused_word = 114 ∷ 101 ∷ 102 ∷ 117 ∷ 115 ∷ 101 ∷ 100 ∷ 32 ∷ []
 
 unfoldable pub refused_line : Refusal → List ℕ
-refused_line r = refused_word ++ decimal r.number ++ space ++ decimal r.place ++ newline
+refused_line r = refused_word ++ decimal (number r.reason) ++ space ++ decimal r.place ++ newline
 
 -- ---- texts
 
@@ -78,8 +78,8 @@ judged_text answer t = header ++ lines answer t.steps ++ totals_line t
 
 -- a refusal prints only its line
 abbrev pub printed : Answer → List ℕ → List ℕ
-printed Done text = text
-printed (Refused r) text = refused_line r
+printed (Ok _) text = text
+printed (Err r) text = refused_line r
 
 -- what is printed of a file that is judged with this memory and this room lent
 abbrev pub file_text : List ℕ → List ℕ → List ℕ → List ℕ

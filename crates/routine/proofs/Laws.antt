@@ -8,9 +8,9 @@ use native.Mathlib.Omega.{arith}
 use borrow.Author.Tests.{not-false}
 use lib.ListN.{length}
 use Rattle.notions.specs.Bytes.{Bytes}
+use Rattle.refusal.specs.Numbers.{number}
 use Rattle.refusal.specs.Answers.{refused_at}
-use Rattle.refusal.specs.Numbers.{challenge_not_greater, token_differs}
-use Rattle.refusal.specs.declared.Answer.TheVariants.{Done}
+use Rattle.refusal.specs.declared.Reason.TheVariants.{ChallengeNotGreater, TokenDiffers}
 use Rattle.notions.proofs.Tests.{untrue}
 use Rattle.refusal.proofs.Order.{done_passed, Refuses, refuses_none, refuses_test}
 use Rattle.hmac.specs.Hmac.{hmac}
@@ -18,6 +18,7 @@ use Rattle.hmac.proofs.Laws.{length_hmac, bytes_hmac}
 use Rattle.routine.specs.Strings.{greater, same}
 use Rattle.routine.specs.Routine.{token, one_time_key, reply_to, reply, request_check}
 use Rattle.routine.proofs.Order.{equal_same, same_equal}
+use Rattle.std.specs.Prelude.{Ok}
 
 -- ---- in HMACs
 
@@ -45,7 +46,7 @@ bytes_reply k challenge region = bytes_hmac _ region
 
 -- ---- steps 1 and 2
 
-pub request_passed : (k challenge received counter : List ℕ) → request_check k challenge received counter ≡ Done
+pub request_passed : (k challenge received counter : List ℕ) → request_check k challenge received counter ≡ Ok tt
     → (greater challenge counter ≡ true) × (token k challenge ≡ received)
 unfolding request_check
 request_passed k challenge received counter e =
@@ -55,28 +56,28 @@ request_passed k challenge received counter e =
 
 pub request_passes : (k challenge received counter : List ℕ) → greater challenge counter ≡ true
     → token k challenge ≡ received
-    → request_check k challenge received counter ≡ Done
+    → request_check k challenge received counter ≡ Ok tt
 unfolding request_check
 request_passes k challenge received counter g e = simp (g, equal_same (token k challenge) received e)
 
 -- refused with 10 or 11
 pub request_old : (k challenge received counter : List ℕ) → greater challenge counter ≡ false
-    → request_check k challenge received counter ≡ refused_at challenge_not_greater 0
+    → request_check k challenge received counter ≡ refused_at ChallengeNotGreater 0
 unfolding request_check
 request_old k challenge received counter g = simp g
 
 pub request_forged : (k challenge received counter : List ℕ) → greater challenge counter ≡ true
     → token k challenge ≢ received
-    → request_check k challenge received counter ≡ refused_at token_differs 0
+    → request_check k challenge received counter ≡ refused_at TokenDiffers 0
 unfolding request_check
 request_forged k challenge received counter g n =
     simp (g, untrue (same (token k challenge) received) (λ e. n (same_equal (token k challenge) received e)))
 
 pub request_numbers : (k challenge received counter : List ℕ)
-    → Refuses (λ n. (challenge_not_greater ≤ n) × (n ≤ token_differs)) (request_check k challenge received counter)
+    → Refuses (λ n. (number ChallengeNotGreater ≤ n) × (n ≤ number TokenDiffers)) (request_check k challenge received counter)
 unfolding request_check
 request_numbers k challenge received counter =
-    let P : ℕ → Type 0 = λ n. (challenge_not_greater ≤ n) × (n ≤ token_differs) in
-    refuses_test P (not (greater challenge counter)) challenge_not_greater 0 _ (omega arith, omega arith)
-    (refuses_test P (not (same (token k challenge) received)) token_differs 0 Done (omega arith, omega arith)
+    let P : ℕ → Type 0 = λ n. (number ChallengeNotGreater ≤ n) × (n ≤ number TokenDiffers) in
+    refuses_test P (not (greater challenge counter)) ChallengeNotGreater 0 _ (omega arith, omega arith)
+    (refuses_test P (not (same (token k challenge) received)) TokenDiffers 0 (Ok tt) (omega arith, omega arith)
     (refuses_none P))

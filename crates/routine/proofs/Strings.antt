@@ -1,15 +1,15 @@
--- One turn of each loop over strings. Assumes nothing.
+-- Strings byte by byte, for `equal` and `greater`. Assumes nothing.
 use mathlib.Core.Path.{◌≡◌, refl, sym, ap, ◌∙◌}
 use mathlib.Core.List.{List, [], ◌∷◌}
 use mathlib.Core.Bool.{Bool, true, false, ◌&&◌, false≢true}
-use Prim.Native.Nat.{ℕ, suc, ◌+◌, ◌≤◌, ◌<◌}
-use native.Mathlib.Numerals.{add-one}
+use Prim.Native.Nat.{ℕ, ◌<◌}
 use native.Mathlib.Omega.{arith}
-use borrow.Author.Tests.{eqb-true, eq-eqb, ne_eqb}
+use borrow.Author.Tests.{eqb-true, eq-eqb, ne_eqb, lt-ltb, le-ltb}
 use lib.Bits.{bit_or, bit_xor, or_add_and, xor_add_and, and_le_l, and_le_r, xor_self, or_zero_l}
-use lib.Dec.{ltb, eqb}
-use lib.ListN.{length, get_or, drop, drop_of_length-le}
-use lib.Seq.{drop-cons, drop-length}
+use lib.Dec.{eqb}
+use lib.ListN.{length}
+use Rattle.std.specs.Ordering.{MatchOrdering}
+use Rattle.std.proofs.Common.{Ordering, Less, Equal, Greater}
 use Rattle.notions.proofs.Tests.{cases}
 use Rattle.routine.specs.Strings.{greater, same}
 use Rattle.routine.proofs.Order.{same_equal}
@@ -55,46 +55,37 @@ same_cons : (x y : ℕ) (a b : List ℕ) → same (x ∷ a) (y ∷ b) ≡ (eqb x
 unfolding same
 same_cons x y a b = refl
 
-pub same_more : (a b : List ℕ) (d i : ℕ) → i < length a → i < length b
-    → same a b ≡ (eqb d 0 && same (drop i a) (drop i b))
-    → same a b ≡ (eqb (bit_or d (bit_xor (get_or a i 0) (get_or b i 0))) 0 && same (drop (i + 1) a) (drop (i + 1) b))
-same_more a b d i ha hb e =
-    let x : ℕ = get_or a i 0 in
-    let y : ℕ = get_or b i 0 in
-    let u = drop-cons a i 0 ha in
-    let v = drop-cons b i 0 hb in
-    rw (add-one, gathered d x y, and_assoc) (cc (same_cons x y (drop (suc i) a) (drop (suc i) b)))
+-- one pair of bytes more is gathered: a and b are what is left
+pub same_more : (a b : List ℕ) {u v : List ℕ} (d x y : ℕ) {t : Bool} → u ≡ x ∷ a → v ≡ y ∷ b
+    → (length u ≡ length v) × (t ≡ (eqb d 0 && same u v))
+    → (length a ≡ length b) × (t ≡ (eqb (bit_or d (bit_xor x y)) 0 && same a b))
+same_more a b {u} {v} d x y {t} eu ev p =
+    let l : length (x ∷ a) ≡ length (y ∷ b) = cc in
+    (omega arith, rw (gathered d x y, and_assoc) (cc (same_cons x y a b)))
 
-pub same_whole : (a b : List ℕ) (d i : ℕ) → i ≡ length a → i ≡ length b
-    → same a b ≡ (eqb d 0 && same (drop i a) (drop i b)) → eqb d 0 ≡ same a b
+-- nothing is left
+pub same_whole : (a b : List ℕ) (d : ℕ) {t : Bool} → length a ≡ 0 → (length a ≡ length b) × (t ≡ (eqb d 0 && same a b))
+    → eqb d 0 ≡ t
 unfolding same
-same_whole a b d i ea eb e =
-    let p : drop i a ≡ [] = ap (λ (n : ℕ). drop n a) ea ∙ drop-length a in
-    let q : drop i b ≡ [] = ap (λ (n : ℕ). drop n b) eb ∙ drop-length b in
-    sym (e ∙ simp (p, q) (and_true (eqb d 0)))
+same_whole [] [] d e p = sym (p.1 ∙ and_true (eqb d 0))
   where
     and_true : (t : Bool) → (t && true) ≡ t
     and_true true = refl
     and_true false = refl
+same_whole [] (y ∷ b) d e p = absurd (let l = p.0 in omega arith)
+same_whole (x ∷ a) b d e p = absurd (omega arith)
 
 -- ---- greater
 
-module _ (a b : List ℕ) (i : ℕ) (ha : i < length a) (e : greater a b ≡ greater (drop i a) (drop i b)) where
-  pub greater_short : length b ≤ i → true ≡ greater a b
-  unfolding greater
-  greater_short h = sym (e ∙ simp (drop-cons a i 0 ha, drop_of_length-le b h))
-
-  pub greater_more : i < length b → get_or a i 0 ≡ get_or b i 0 → greater a b ≡ greater (drop (i + 1) a) (drop (i + 1) b)
-  unfolding greater
-  greater_more hb h = rw add-one (e ∙ simp (drop-cons a i 0 ha, drop-cons b i 0 hb, eq-eqb _ _ h))
-
-  pub greater_differ : i < length b → (get_or a i 0 ≡ get_or b i 0 → ⊥) → ltb (get_or b i 0) (get_or a i 0) ≡ greater a b
-  unfolding greater
-  greater_differ hb h = sym (e ∙ simp (drop-cons a i 0 ha, drop-cons b i 0 hb, ne_eqb _ _ h))
-
-pub greater_none : (a b : List ℕ) (i : ℕ) → i ≡ length a → greater a b ≡ greater (drop i a) (drop i b)
-    → false ≡ greater a b
+-- the first bytes decide by their order, or they are equal and the others decide
+pub greater_ranked : (x y : ℕ) (a b : List ℕ) (o : Ordering) → MatchOrdering o (x < y) (x ≡ y) (y < x)
+    → MatchOrdering o (greater (x ∷ a) (y ∷ b) ≡ false) (greater (x ∷ a) (y ∷ b) ≡ greater a b)
+    (greater (x ∷ a) (y ∷ b) ≡ true)
 unfolding greater
-greater_none a b i ea e =
-    let p : drop i a ≡ [] = ap (λ (n : ℕ). drop n a) ea ∙ drop-length a in
-    sym (e ∙ simp p)
+greater_ranked x y a b Less h =
+    let l : x < y = h in
+    simp (ne_eqb x y (λ e. omega arith), le-ltb y x (omega arith)) refl
+greater_ranked x y a b Equal h = simp (eq-eqb x y h) refl
+greater_ranked x y a b Greater h =
+    let l : y < x = h in
+    simp (ne_eqb x y (λ e. omega arith), lt-ltb y x l) refl

@@ -1,10 +1,8 @@
 -- The attestation routine with verifier authentication, over a key K, a challenge and a region. Assumes nothing.
-use Rattle.std.specs.Prelude.{not, List, ℕ}
+use Rattle.std.specs.Prelude.{Ok, not, List, ℕ}
 use Rattle.notions.specs.Choice.{pick}
-use Rattle.refusal.specs.Answers.{refused_at}
-use Rattle.refusal.specs.Numbers.{challenge_not_greater, token_differs}
-use Rattle.refusal.specs.declared.Answer.{Answer}
-use Rattle.refusal.specs.declared.Answer.TheVariants.{Done}
+use Rattle.refusal.specs.Answers.{Answer, refused_at}
+use Rattle.refusal.specs.declared.Reason.TheVariants.{ChallengeNotGreater, TokenDiffers}
 use Rattle.hmac.specs.Hmac.{hmac}
 use Rattle.routine.specs.Strings.{greater, same}
 
@@ -33,5 +31,5 @@ reply k challenge region = reply_to k (token k challenge) region
 -- steps 1 and 2: the challenge must be greater than the counter, and T must equal the token that came with it
 unfoldable pub request_check : List ℕ → List ℕ → List ℕ → List ℕ → Answer
 request_check k challenge received counter =
-    pick (not (greater challenge counter)) (refused_at challenge_not_greater 0)
-    (pick (not (same (token k challenge) received)) (refused_at token_differs 0) Done)
+    pick (not (greater challenge counter)) (refused_at ChallengeNotGreater 0)
+    (pick (not (same (token k challenge) received)) (refused_at TokenDiffers 0) (Ok tt))

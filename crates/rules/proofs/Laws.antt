@@ -7,6 +7,8 @@ use native.Mathlib.Omega.{arith}
 use lib.Dec.{ltb}
 use lib.ListN.{get_or}
 use borrow.Author.Tests.{ltb-false, lt-ltb}
+use Rattle.std.specs.Prelude.{◌+◌, length, Option, Some, None, cond}
+use Rattle.std.specs.List.{position_or_len}
 use Rattle.notions.specs.Choice.{pick}
 use Rattle.notions.specs.First.{first}
 use Rattle.notions.proofs.First.{first_most, first_least, first_is, first_none}
@@ -39,22 +41,34 @@ held_away l m s e = simp e
 found_or_none : (b : Broken) → (n : ℕ) → first rule_numbers (numbered b) ≡ n → n < rule_numbers → lowest b ≡ n
 found_or_none b n e h = simp (e, lt-ltb n rule_numbers h)
 
--- asked in turn, the first rule that is broken has the lowest number
-pub lowest_in_turn : (r1 r2 r3 r4 r5 r6 r7 r8 r9 r10 : Bool)
-    → pick r1 1 (pick r2 2 (pick r3 3 (pick r4 4 (pick r5 5 (pick r6 6 (pick r7 7 (pick r8 8 (pick r9 9 (pick r10 10 0)))))))))
+-- a rule's number by its place among them; no place is number 0
+abbrev pub number_at : Option ℕ → ℕ
+number_at None = 0
+number_at (Some k) = k + 1
+
+-- the first place where a rule is broken
+abbrev pub first_place : List Bool → Option ℕ
+first_place l = cond (ltb (position_or_len (λ x. x) l) (length l)) (Some (position_or_len (λ x. x) l)) None
+
+placed : (r1 r2 r3 r4 r5 r6 r7 r8 r9 r10 : Bool)
+    → number_at (first_place (r1 ∷ r2 ∷ r3 ∷ r4 ∷ r5 ∷ r6 ∷ r7 ∷ r8 ∷ r9 ∷ r10 ∷ []))
     ≡ lowest (record { r1 = r1; r2 = r2; r3 = r3; r4 = r4; r5 = r5; r6 = r6; r7 = r7; r8 = r8; r9 = r9; r10 = r10 })
 unfolding first
-lowest_in_turn true r2 r3 r4 r5 r6 r7 r8 r9 r10 = refl
-lowest_in_turn false true r3 r4 r5 r6 r7 r8 r9 r10 = refl
-lowest_in_turn false false true r4 r5 r6 r7 r8 r9 r10 = refl
-lowest_in_turn false false false true r5 r6 r7 r8 r9 r10 = refl
-lowest_in_turn false false false false true r6 r7 r8 r9 r10 = refl
-lowest_in_turn false false false false false true r7 r8 r9 r10 = refl
-lowest_in_turn false false false false false false true r8 r9 r10 = refl
-lowest_in_turn false false false false false false false true r9 r10 = refl
-lowest_in_turn false false false false false false false false true r10 = refl
-lowest_in_turn false false false false false false false false false true = refl
-lowest_in_turn false false false false false false false false false false = refl
+placed true r2 r3 r4 r5 r6 r7 r8 r9 r10 = refl
+placed false true r3 r4 r5 r6 r7 r8 r9 r10 = refl
+placed false false true r4 r5 r6 r7 r8 r9 r10 = refl
+placed false false false true r5 r6 r7 r8 r9 r10 = refl
+placed false false false false true r6 r7 r8 r9 r10 = refl
+placed false false false false false true r7 r8 r9 r10 = refl
+placed false false false false false false true r8 r9 r10 = refl
+placed false false false false false false false true r9 r10 = refl
+placed false false false false false false false false true r10 = refl
+placed false false false false false false false false false true = refl
+placed false false false false false false false false false false = refl
+
+-- the first rule that is broken has the lowest number
+pub lowest_at : (b : Broken) → number_at (first_place (in_order b)) ≡ lowest b
+lowest_at b = placed b.r1 b.r2 b.r3 b.r4 b.r5 b.r6 b.r7 b.r8 b.r9 b.r10
 
 -- number 0 is no rule
 found_above : (b : Broken) → 0 < first rule_numbers (numbered b)

@@ -2,7 +2,6 @@
 #![tactic(auto)]
 
 ghost use Rattle.std.specs.Prelude.{◌≡◌};
-ghost use Rattle.notions.specs.Choice.{pick};
 ghost use Rattle.rules.specs.Rules as R;
 ghost use Rattle.rules.specs.Inner as I;
 ghost use Rattle.rules.specs.Promises as P;
@@ -32,6 +31,7 @@ struct Broken {
     r10: bool,
 }
 
+// A number, as `cause` answers.
 const HELD: u8 = 15;
 
 // Which of the ten rules are tried at the step and apply to it.
@@ -63,27 +63,15 @@ fn breaks(l: Layout, m: Monitor, s: Step) -> Broken
     }
 }
 
-// This rule's number if it is broken, else that of the rules behind it.
-fn number_if(broken: bool, number: u8, behind: u8) -> u8
-    ensures { result ≡ pick broken number behind }
-{
-    if broken { number } else { behind }
-}
-
 // The lowest rule of the ten, and 0 if none applies.
 fn lowest(b: Broken) -> u8
     ensures { result ≡ R.lowest b }
 {
-    let from10 = number_if(b.r10, 10, 0);
-    let from9 = number_if(b.r9, 9, from10);
-    let from8 = number_if(b.r8, 8, from9);
-    let from7 = number_if(b.r7, 7, from8);
-    let from6 = number_if(b.r6, 6, from7);
-    let from5 = number_if(b.r5, 5, from6);
-    let from4 = number_if(b.r4, 4, from5);
-    let from3 = number_if(b.r3, 3, from4);
-    let from2 = number_if(b.r2, 2, from3);
-    number_if(b.r1, 1, from2)
+    let in_order = [b.r1, b.r2, b.r3, b.r4, b.r5, b.r6, b.r7, b.r8, b.r9, b.r10];
+    match in_order.iter().position(|broken| *broken) {
+        Some(k) => k as u8 + 1,
+        None => 0,
+    }
 }
 
 // CR is neither entered nor left, and no access is in a region that a rule guards. Most steps are so, and then none is broken.
@@ -106,7 +94,7 @@ fn visits(l: Layout, m: Monitor, s: Step) -> bool
     l.cr.holds(s.pc) & entered & !(s.interrupt | s.dmaactive) & (!s.cpuwrites | lawful)
 }
 
-// Why the step resets, and 0 if it does not.
+// Why the step resets, and 0 if it does not. A number, since `effects::act` promises an answer for every byte as a cause.
 pub fn cause(l: Layout, m: Monitor, s: Step) -> u8
     ensures { P.GivesCause l m s result }
 {

@@ -1,17 +1,16 @@
 -- What the judging of a run file promises, for all inputs. Assumes nothing.
-use Rattle.std.specs.Prelude.{◌≡◌, List, ℕ, length}
-use Rattle.refusal.specs.Answers.{and_then, told, after_call}
-use Rattle.refusal.specs.declared.Answer.{Answer}
+use Rattle.std.specs.Prelude.{◌≡◌, List, ℕ, length, Result}
+use Rattle.refusal.specs.Answers.{Answer, and_then, told, after_call}
 use Rattle.layout.specs.declared.Layout.{Layout}
 use Rattle.layout.specs.Layouts.{layout_of}
 use Rattle.layout.specs.Calls.{call_check}
 use Rattle.monitor.specs.declared.Totals.{Totals}
-use Rattle.monitor.specs.declared.Traced.{Traced}
 use Rattle.monitor.specs.Runs.{memory_after, room_after, totals}
 use Rattle.traces.specs.Traces.{trace_check}
 use Rattle.monitor.specs.Promises.{totals_values, traced_row}
 use Rattle.file_contents.specs.Contents.{layout_entry, memory_entry, trace_entry, file_check, body}
 use Rattle.file_segments.specs.Segments.{segment_check, described}
+use Rattle.refusal.specs.declared.Refusal.{Refusal}
 
 -- the layout, the memory and the trace that a file holds
 abbrev pub file_layout : List ℕ → Layout
@@ -46,7 +45,7 @@ room_left f memory room =
     after_call (judge_check f memory room) (room_after (file_layout f) (file_trace f) (file_memory f) room) room
 
 -- `judge`: memory and room are lent, and memory' and room' are what stands there afterwards
-pub record Judges (file memory room memory' room' : List ℕ) (r : Traced) : Type 0 where
+pub record Judges (file memory room memory' room' : List ℕ) (r : Result Totals Refusal) : Type 0 where
   pub answered : traced_row r ≡ told (judge_check file memory room) (totals_values (file_totals file))
   pub memory_left : memory' ≡ memory_left file memory room
   pub room_left : room' ≡ room_left file memory room

@@ -1,6 +1,6 @@
 -- The laws of the hash, for readers and for the crates above. Assumes nothing.
 use mathlib.Core.Path.{◌≡◌, refl, ap, subst, ◌∙◌}
-use mathlib.Core.Bool.{Bool, false}
+use mathlib.Core.Bool.{Bool, true, false}
 use mathlib.Core.List.{List, ◌++◌}
 use Prim.Native.Nat.{ℕ, ◌+◌, ◌^◌, ◌≤◌}
 use native.Mathlib.Omega.{arith}
@@ -11,7 +11,8 @@ use Rattle.sha256_block.specs.Constants.{H}
 use Rattle.sha256_block.specs.Block.{whole, rest}
 use Rattle.sha256.specs.declared.Sha.{Sha}
 use Rattle.sha256.specs.declared.Taken.{Taken}
-use Rattle.sha256.specs.declared.Bytes32.{Bytes32}
+use Rattle.std.specs.Prelude.{Result, Ok}
+use Rattle.refusal.specs.declared.Refusal.{Refusal}
 use Rattle.sha256_digest.specs.Hash.{padding, out, sha256}
 use Rattle.sha256_digest.specs.Promises.{Digests, DigestsFrom}
 use Rattle.sha256_digest.proofs.Laws.{hashed}
@@ -64,8 +65,13 @@ pub digested : (s : Sha) {r : List ℕ} → DigestsFrom s.words s.block s.total 
 unfolding digest
 digested s p h = rw (lt-leb (2 ^ 61) s.total (omega (arith, h))) at p
 
-pub gives_bytes : {t : Bool} {b : List ℕ} {r : Bytes32} → Gives t b r → t ≡ false → r.bytes ≡ b
-gives_bytes p e = rw e at p.given
+pub gives_bytes : {t : Bool} {b : List ℕ} {r : Result (List ℕ) Refusal} → Gives t b r → t ≡ false → r ≡ Ok b
+gives_bytes p e = rw e at p
+
+-- bytes that were given
+pub gives_ok : (t : Bool) (b : List ℕ) {o : List ℕ} → Gives t b (Ok o) → (t ≡ false) × (o ≡ b)
+gives_ok true b p = absurd (cc)
+gives_ok false b p = (refl, cc)
 
 module _ {s : Sha} {x : List ℕ} {r : Taken} (p : TakesIn s x r) (h : s.total + length x ≤ limit) where
   pub takes_in_state : r.state ≡ taken s x
@@ -88,7 +94,7 @@ takes_in_twice {s} {a} {b} {r} {q} {u} el h p p' z =
     z
 
 -- start, take m in, finish: what `hash` answers
-pub hashes_running : {m : List ℕ} {s : Sha} {r : Taken} {d e : Bytes32} → length m ≤ limit
+pub hashes_running : {m : List ℕ} {s : Sha} {r : Taken} {d e : Result (List ℕ) Refusal} → length m ≤ limit
     → Starts s → TakesIn s m r → Finishes r.state d → Hashes m e → d ≡ e
 hashes_running {m} {s} {r} {d} {e} h p q f z =
     let z₀ : s.total ≡ 0 = ap (λ (t : Sha). t.total) p ∙ started_total in
@@ -96,5 +102,5 @@ hashes_running {m} {s} {r} {d} {e} h p q f z =
     let en : r.state.total ≡ length m = omega
     (arith, ap (λ (t : Sha). t.total) es ∙ taken_total started m, started_total) in
     let ed : digest r.state ≡ sha256 m = ap digest es ∙ digest_taken m in
-    gives_settled d e (subst (λ (b : List ℕ). Gives (over (length m)) b d) ed
+    gives_settled _ _ d e (subst (λ (b : List ℕ). Gives (over (length m)) b d) ed
     (subst (λ (n : ℕ). Gives (over n) (digest r.state) d) en f)) z

@@ -3,7 +3,7 @@ use mathlib.Core.Path.{◌≡◌, sym, ap, ◌∙◌}
 use mathlib.Core.List.{List, [], ◌++◌, append_assoc, append-nil}
 use Prim.Native.Nat.{ℕ, ◌+◌, ◌-◌, ◌%◌, ◌≤◌, ◌<◌}
 use native.Mathlib.Omega.{arith}
-use lib.ListN.{length, take, drop, replicate, length-append, length-drop, take-append-drop, drop_of_length-le}
+use lib.ListN.{length, take, drop, replicate, length-take, length-append, length-drop, take-append-drop, drop_of_length-le}
 use lib.Seq.{paste, take_all, take-length, take_at, drop-append-add, length-take-le}
 use Rattle.sha256_block.specs.Block.{whole, rest}
 use Rattle.sha256_block.proofs.Laws.{whole_join, whole_short}
@@ -23,11 +23,10 @@ block_stored y h =
     let z : 0 + length y ≡ length y = omega arith in
     cc (take-length y, drop_replicate (length y) 64 0 h, block_short y h)
 
-pub block_cut : (y : List ℕ) → 64 ≤ length y → block_of (take 64 y) ≡ block_of y
-block_cut y h =
-    let l : length (take 64 y) ≡ 64 = length-take-le 64 y h in
-    let z : 64 - length (take 64 y) ≡ 64 - length y = omega arith in
-    cc (take_all 64 (take 64 y) (omega arith))
+pub block_cut : (y : List ℕ) → block_of (take 64 y) ≡ block_of y
+block_cut y =
+    let z : 64 - length (take 64 y) ≡ 64 - length y = simp length-take (omega arith) in
+    cc (take_all 64 (take 64 y) (simp length-take (omega arith)))
 
 -- x stored behind the bytes y at the start of a block
 pub block_joined : (y x : List ℕ) (n : ℕ) → length y ≡ n → n + length x ≤ 64

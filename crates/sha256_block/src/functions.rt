@@ -1,20 +1,6 @@
-// FIPS 180-4, 3.2 and 4.1.2: the sum of two words, a word rotated right, and the functions on words.
-ghost use Rattle.std.specs.Prelude.{◌≡◌, ◌<◌};
-ghost use Rattle.sha256_block.specs.Words as W;
+// FIPS 180-4, 4.1.2: the functions on words.
+ghost use Rattle.std.specs.Prelude.{◌≡◌};
 ghost use Rattle.sha256_block.specs.Functions as F;
-
-pub fn add(x: u32, y: u32) -> u32
-    ensures { result ≡ W.add x y }
-{
-    std::num::wrapping_add_u32(x, y)
-}
-
-fn rotr(n: u32, x: u32) -> u32
-    requires { (0 < n) × (n < 32) }
-    ensures { result ≡ W.rotr n x }
-{
-    (x >> n) | (x << (32 - n))
-}
 
 pub fn ch(x: u32, y: u32, z: u32) -> u32
     ensures { result ≡ F.ch x y z }
@@ -28,26 +14,28 @@ pub fn maj(x: u32, y: u32, z: u32) -> u32
     (x & y) ^ (x & z) ^ (y & z)
 }
 
+// Each of the standard's four functions under its name. One over the three numbers would need a bound on each number, a
+// definition beside the standard's and a proof; these need none.
 pub fn big_sigma0(x: u32) -> u32
     ensures { result ≡ F.Σ0 x }
 {
-    rotr(2, x) ^ rotr(13, x) ^ rotr(22, x)
+    x.rotate_right(2) ^ x.rotate_right(13) ^ x.rotate_right(22)
 }
 
 pub fn big_sigma1(x: u32) -> u32
     ensures { result ≡ F.Σ1 x }
 {
-    rotr(6, x) ^ rotr(11, x) ^ rotr(25, x)
+    x.rotate_right(6) ^ x.rotate_right(11) ^ x.rotate_right(25)
 }
 
 pub fn small_sigma0(x: u32) -> u32
     ensures { result ≡ F.σ0 x }
 {
-    rotr(7, x) ^ rotr(18, x) ^ (x >> 3)
+    x.rotate_right(7) ^ x.rotate_right(18) ^ (x >> 3)
 }
 
 pub fn small_sigma1(x: u32) -> u32
     ensures { result ≡ F.σ1 x }
 {
-    rotr(17, x) ^ rotr(19, x) ^ (x >> 10)
+    x.rotate_right(17) ^ x.rotate_right(19) ^ (x >> 10)
 }

@@ -1,8 +1,7 @@
 -- What the functions for a C program promise, for all inputs. Assumes nothing.
-use Rattle.std.specs.Prelude.{◌≡◌, ◌||◌, List, ◌++◌, ℕ, ltb, length, get_or, drop, replicate}
+use Rattle.std.specs.Prelude.{◌≡◌, ◌||◌, List, ◌++◌, ℕ, ltb, length, get_or, drop, replicate, Result, Ok, Err}
 use Rattle.notions.specs.Choice.{pick}
-use Rattle.refusal.specs.Answers.{row, after_call}
-use Rattle.refusal.specs.declared.Answer.{Answer}
+use Rattle.refusal.specs.Answers.{Answer, row, after_call}
 use Rattle.layout.specs.Layouts.{layout_of}
 use Rattle.layout.specs.Calls.{call_check}
 use Rattle.sha256_digest.specs.Hash.{sha256}
@@ -10,11 +9,13 @@ use Rattle.sha256.specs.Promises.{over}
 use Rattle.hmac.specs.Hmac.{hmac}
 use Rattle.hmac.specs.Promises.{long}
 use Rattle.board.specs.Attestation.{attest_check, accepted}
-use Rattle.monitor.specs.declared.Traced.{Traced}
 use Rattle.monitor.specs.Runs.{memory_after, room_after}
 use Rattle.traces.specs.Traces.{trace_check}
 use Rattle.monitor.specs.Promises.{traced_row}
 use Rattle.runfile.specs.Promises.{judge_check, memory_left, room_left}
+use Rattle.monitor.specs.declared.Totals.{Totals}
+use Rattle.refusal.specs.Numbers.{number}
+use Rattle.refusal.specs.declared.Refusal.{Refusal}
 
 -- the bytes of a digest
 abbrev pub digest_bytes : ℕ
@@ -40,12 +41,17 @@ StoresHash m room after = after ≡ holding (hash_answer m) room
 abbrev pub StoresMac : List ℕ → List ℕ → List ℕ → List ℕ → Type 0
 StoresMac k m room after = after ≡ holding (mac_answer k m) room
 
+-- 0, or the refusal's number
+abbrev pub number_of : {T : Type 0} → Result T Refusal → ℕ
+number_of (Ok v) = 0
+number_of (Err r) = number r.reason
+
 -- what an answer's row begins with: 0, or the refusal's number
 abbrev pub answer_number : Answer → ℕ
 answer_number a = get_or (row a) 0 0
 
 -- the same of `trace` and `judge`
-abbrev pub traced_number : Traced → ℕ
+abbrev pub traced_number : Result Totals Refusal → ℕ
 traced_number t = get_or (traced_row t) 0 0
 
 -- `speed_attest`: 0, or the refusal's number; and what `attest` leaves

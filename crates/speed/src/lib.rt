@@ -2,66 +2,48 @@
 // functions, and bench/ links those.
 #![tactic(auto)]
 
-ghost use Rattle.std.specs.Prelude.{◌≡◌, length};
+ghost use Rattle.std.specs.Prelude.{◌≡◌};
 ghost use Rattle.speed.specs.Promises as P;
 
-use monitor::Traced;
-use refusal::{Answer, Refusal};
+use refusal::Refusal;
 
 // The bytes of a digest.
 const DIGEST_BYTES: usize = 32;
 
 // A digest's bytes at the room's start; a room that is too short for them is left as it is.
-fn store(bytes: &[u8], room: &mut [u8])
-    requires { length bytes.now ≡ P.digest_bytes }
+fn store(bytes: &[u8; DIGEST_BYTES], room: &mut [u8])
     ensures { room.new ≡ P.holding bytes.now room.old }
 {
     if room.len() < DIGEST_BYTES {
         return;
     }
-    octets::store(room, 0, bytes);
+    room[..DIGEST_BYTES].copy_from_slice(bytes);
 }
 
-// Stores the bytes that `hash` answers.
+// Stores the bytes that `hash` answers, and zeros where it refuses.
 pub fn speed_hash(message: &[u8], room: &mut [u8])
     ensures { P.StoresHash message.now room.old room.new }
 {
-    let d = sha256::hash(message).bytes;
+    let d = sha256::hash(message).unwrap_or([0u8; DIGEST_BYTES]);
     store(&d, room);
 }
 
-// Stores the bytes that `mac` answers.
+// Stores the bytes that `mac` answers, and zeros where it refuses.
 pub fn speed_mac(key: &[u8], message: &[u8], room: &mut [u8])
     ensures { P.StoresMac key.now message.now
         room.old room.new }
 {
-    let d = hmac::mac(key, message).bytes;
+    let d = hmac::mac(key, message).unwrap_or([0u8; DIGEST_BYTES]);
     store(&d, room);
 }
 
-fn number(r: Refusal) -> usize
-    ensures { result ≡ r.number }
+// The number of the refusal, or 0: C gets a number.
+fn number<T: Copy>(answer: Result<T, Refusal>) -> usize
+    ensures { result ≡ P.number_of answer }
 {
-    r.number as usize
-}
-
-// The number of the refusal, or 0.
-fn answered(a: Answer) -> usize
-    ensures { result ≡ P.answer_number a }
-{
-    match a {
-        Answer::Done => 0,
-        Answer::Refused(r) => number(r),
-    }
-}
-
-// The same of a judged trace or file.
-fn traced(t: Traced) -> usize
-    ensures { result ≡ P.traced_number t }
-{
-    match t {
-        Traced::Judged(_) => 0,
-        Traced::Refused(r) => number(r),
+    match answer {
+        Ok(_) => 0,
+        Err(r) => r.reason.number() as usize,
     }
 }
 
@@ -69,7 +51,7 @@ fn traced(t: Traced) -> usize
 pub fn speed_attest(memory: &mut [u8], layout: &[u8]) -> usize
     ensures { P.NumbersAttest memory.old layout.now memory.new result }
 {
-    answered(board::attest(memory, layout))
+    number(board::attest(memory, layout))
 }
 
 // What `trace` leaves in memory and room, and the number of its refusal or 0.
@@ -77,7 +59,7 @@ pub fn speed_trace(memory: &mut [u8], layout: &[u8], trace: &[u8], room: &mut [u
     ensures { P.NumbersTrace memory.old layout.now trace.now
         room.old memory.new room.new result }
 {
-    traced(monitor::trace(memory, layout, trace, room))
+    number(monitor::trace(memory, layout, trace, room))
 }
 
 // What `judge` leaves in memory and room, and the number of its refusal or 0.
@@ -85,5 +67,5 @@ pub fn speed_judge(file: &[u8], memory: &mut [u8], room: &mut [u8]) -> usize
     ensures { P.NumbersJudge file.now memory.old room.old
         memory.new room.new result }
 {
-    traced(runfile::judge(file, memory, room))
+    number(runfile::judge(file, memory, room))
 }

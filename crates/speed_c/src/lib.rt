@@ -1,4 +1,5 @@
-// The functions of `speed` under C names, for bench/. A slice is a pointer and a length.
+// The functions of `speed` under C names, for bench/. A slice is a pointer and a length. C asks for each function twice: what
+// it does stands in `speed`, which Rattle's crates can call too.
 #![tactic(auto)]
 
 ghost use Rattle.speed.specs.Promises as P;

@@ -2,36 +2,35 @@
 -- Assumes nothing.
 use mathlib.Core.Path.{◌≡◌, refl, ap, sym, ◌∙◌}
 use mathlib.Core.List.{List, [], ◌∷◌, ◌++◌}
-use Prim.Native.Nat.{ℕ, zero, suc, ◌+◌, ◌-◌, ◌*◌, ◌/◌, ◌%◌, ◌<◌}
+use Prim.Native.Nat.{ℕ, zero, suc, ◌+◌, ◌*◌, ◌/◌, ◌<◌}
 use native.Mathlib.Numerals.{add-one}
 use native.Mathlib.Omega.{arith}
-use lib.ListN.{length, get_or, set, drop, length-append}
+use lib.ListN.{length, get_or, drop, length-append}
 use lib.Seq.{sets, drop-cons, drop-length}
+use Rattle.std.specs.Int.{w32, w64, to_le_bytes}
 use Rattle.octets.specs.Numbers.{little}
-use Rattle.octets.proofs.Laid.{sets_append, laid_over}
+use Rattle.octets.proofs.Laid.{part_more, laid_over}
 use Rattle.sha256.specs.declared.Sha.{Sha}
 use Rattle.state_codecs.specs.States.{words_bytes, state_bytes}
 
--- a part is laid
-part_more : (out out' goal a b : List ℕ) (p q : ℕ) → sets out p (a ++ b) ≡ goal → out' ≡ sets out p a → q ≡ p + length a
-    → sets out' q b ≡ goal
-part_more out out' goal a b p q e l n =
-    ap (λ (k : ℕ). sets out' k b) n
-    ∙ ap (λ (o : List ℕ). sets o (p + length a) b) l
-    ∙ sets_append a b out p
-    ∙ e
-
--- a number
-pub number_more : (out goal : List ℕ) (p n k : ℕ) → 0 < k → sets out p (little k n) ≡ goal
-    → sets (set out p (n % 256)) (p + 1) (little (k - 1) (n / 256)) ≡ goal
+-- the library's bytes of a number
+pub four_bytes : (n : ℕ) → to_le_bytes w32 n ≡ little 4 n
 unfolding little
-number_more out goal p n k h e =
-    let s : k ≡ suc (k - 1) = omega arith in
-    rw add-one (ap (λ (j : ℕ). sets out p (little j n)) (sym s) ∙ e)
+four_bytes n =
+    let e₂ : n / 65536 ≡ n / 256 / 256 = omega arith in
+    let e₃ : n / 16777216 ≡ n / 65536 / 256 = omega arith in
+    cc
 
-pub number_whole : (out goal : List ℕ) (p n k : ℕ) → k ≡ 0 → sets out p (little k n) ≡ goal → out ≡ goal
+pub eight_bytes : (n : ℕ) → to_le_bytes w64 n ≡ little 8 n
 unfolding little
-number_whole out goal p n k z e = ap (λ (j : ℕ). sets out p (little j n)) (sym z) ∙ e
+eight_bytes n =
+    let e₂ : n / 65536 ≡ n / 256 / 256 = omega arith in
+    let e₃ : n / 16777216 ≡ n / 65536 / 256 = omega arith in
+    let e₄ : n / 4294967296 ≡ n / 16777216 / 256 = omega arith in
+    let e₅ : n / 1099511627776 ≡ n / 4294967296 / 256 = omega arith in
+    let e₆ : n / 281474976710656 ≡ n / 1099511627776 / 256 = omega arith in
+    let e₇ : n / 72057594037927936 ≡ n / 281474976710656 / 256 = omega arith in
+    cc
 
 -- words
 pub words_more : (out out' goal ws : List ℕ) (i : ℕ) → i < length ws → sets out (4 * i) (words_bytes (drop i ws)) ≡ goal

@@ -2,7 +2,7 @@
 // byte first.
 #![tactic(auto)]
 
-ghost use Rattle.std.specs.Prelude.{◌≡◌, ◌+◌, ◌*◌, ◌≤◌, ◌<◌, length, drop};
+ghost use Rattle.std.specs.Prelude.{◌≡◌, ◌*◌, ◌<◌, drop};
 ghost use Rattle.std.proofs.lemmas.List.Edits.{sets};
 ghost use Rattle.octets.specs.Numbers as N;
 ghost use Rattle.sha256.specs.Running as R;
@@ -10,6 +10,7 @@ ghost use Rattle.state_codecs.specs.States as S;
 ghost use Rattle.state_codecs.specs.Promises as P;
 
 use sha256::Sha;
+use std::array;
 
 // A state: eight words of four bytes, the block of 64, and the total in eight.
 const WORDS: usize = 8;
@@ -36,28 +37,17 @@ fn word_at(bytes: &[u8], i: usize) -> u32
 fn words_of(bytes: &[u8]) -> [u32; WORDS]
     ensures { result ≡ S.words_of S.word_count bytes.now }
 {
-    [
-        word_at(bytes, 0),
-        word_at(bytes, 1),
-        word_at(bytes, 2),
-        word_at(bytes, 3),
-        word_at(bytes, 4),
-        word_at(bytes, 5),
-        word_at(bytes, 6),
-        word_at(bytes, 7),
-    ]
+    array::from_fn(|i| word_at(bytes, i))
 }
 
 fn block_behind_words(bytes: &[u8]) -> [u8; BLOCK_BYTES]
     ensures { result ≡ R.block_of (drop S.block_at bytes.now) }
 {
-    if bytes.len() < BLOCK_AT {
-        return [0u8; BLOCK_BYTES];
-    }
-    sha256::block_of(&bytes[BLOCK_AT..])
+    sha256::block_of(bytes.get(BLOCK_AT..).unwrap_or(&[]))
 }
 
 // The state that 104 bytes stand for; bytes that are missing count as 0.
+// No `impl From`, here or for the bytes of a state: `Sha` is of another crate, so the check refuses it as an orphan.
 pub fn state_of(bytes: &[u8]) -> Sha
     ensures { P.IsState bytes.now result }
 {
@@ -71,30 +61,11 @@ pub fn state_of(bytes: &[u8]) -> Sha
     }
 }
 
-// Stores k bytes of a number from a place on.
-fn put_number(out: &mut [u8], at: usize, n: u64, k: usize)
-    requires { at + k ≤ length out.old }
-    ensures { out.new ≡ sets out.old at (N.little k n) }
-{
-    let mut p = at;
-    let mut rest = n;
-    let mut left = k;
-    while left > 0 {
-        out[p] = (rest % 256) as u8;
-        p += 1;
-        rest = rest / 256;
-        left -= 1;
-    }
-}
-
 fn put_words(out: &mut [u8], words: [u32; WORDS])
-    requires { S.block_at ≤ length out.old }
     ensures { out.new ≡ sets out.old 0 (S.words_bytes words) }
 {
-    let mut i: usize = 0;
-    while i < WORDS {
-        put_number(out, WORD_BYTES * i, words[i] as u64, WORD_BYTES);
-        i += 1;
+    for (i, word) in words.iter().enumerate() {
+        octets::store(out, WORD_BYTES * i, &word.to_le_bytes());
     }
 }
 
@@ -102,12 +73,9 @@ fn put_words(out: &mut [u8], words: [u32; WORDS])
 pub fn state_bytes(s: Sha) -> [u8; STATE_BYTES]
     ensures { P.IsStateBytes s result }
 {
-    let words = s.words;
-    let block = s.block;
-    let total = s.total;
     let mut out = [0u8; STATE_BYTES];
-    put_words(&mut out, words);
-    octets::store(&mut out, BLOCK_AT, &block);
-    put_number(&mut out, TOTAL_AT, total, TOTAL_BYTES);
+    put_words(&mut out, s.words);
+    octets::store(&mut out, BLOCK_AT, &s.block);
+    octets::store(&mut out, TOTAL_AT, &s.total.to_le_bytes());
     out
 }

@@ -10,18 +10,16 @@ use lib.ListN.{length}
 use borrow.Author.Tests.{eqb-true, eqb-false, eq-eqb, ne_eqb, ltb-false, le-ltb, not-false}
 use Rattle.notions.specs.Choice.{pick}
 use Rattle.refusal.specs.Answers.{refused_at, told}
-use Rattle.refusal.specs.Numbers.{length_or_total}
+use Rattle.refusal.specs.declared.Reason.TheVariants.{LengthOrTotal}
 use Rattle.refusal.specs.declared.Refusal.{Refusal}
-use Rattle.refusal.specs.declared.Answer.TheVariants as call
 use Rattle.notions.proofs.Tests.{neither, clash, untrue}
 use Rattle.routine.specs.Strings.{same}
 use Rattle.routine.specs.Routine.{reply}
 use Rattle.routine.proofs.Order.{same_equal, equal_same}
-use Rattle.station.specs.declared.Verdict.{Verdict}
-use Rattle.station.specs.declared.Verdict.TheVariants.{Yes, No, Refused}
 use Rattle.station.specs.Lengths.{Lengths}
 use Rattle.station.specs.Promises.{not_of, token_unfit, check_unfit, verdict_row, ChecksReply}
 use Rattle.station.proofs.Settled.{verdict_row_settled}
+use Rattle.std.specs.Prelude.{Err, Ok, Result}
 
 -- ---- lengths
 
@@ -67,37 +65,37 @@ module _ (k challenge given region : List ℕ) where
 
 -- on plain variables: t says that the lengths are unfit, s that the replies are the same
 abbrev says : Bool → Bool → List ℕ
-says t s = told (pick t (refused_at length_or_total 0) call.Done) (pick s (1 ∷ 0 ∷ []) (0 ∷ 1 ∷ []))
+says t s = told (pick t (refused_at LengthOrTotal 0) (Ok tt)) (pick s (1 ∷ 0 ∷ []) (0 ∷ 1 ∷ []))
 
-told_yes : (t s : Bool) → verdict_row Yes ≡ says t s → (t ≡ false) × (s ≡ true)
-told_yes true s e = absurd (let z : ◌≡◌ {A = ℕ} 0 12 = cc in omega arith)
+told_yes : (t s : Bool) → verdict_row (Ok true) ≡ says t s → (t ≡ false) × (s ≡ true)
+told_yes true s e = absurd (cc)
 told_yes false true e = (refl, refl)
-told_yes false false e = absurd (let z : ◌≡◌ {A = ℕ} 1 0 = cc in omega arith)
+told_yes false false e = absurd (cc)
 
-told_no : (t s : Bool) → verdict_row No ≡ says t s → (t ≡ false) × (s ≡ false)
-told_no true s e = absurd (let z : ◌≡◌ {A = ℕ} 0 12 = cc in omega arith)
-told_no false true e = absurd (let z : ◌≡◌ {A = ℕ} 0 1 = cc in omega arith)
+told_no : (t s : Bool) → verdict_row (Ok false) ≡ says t s → (t ≡ false) × (s ≡ false)
+told_no true s e = absurd (cc)
+told_no false true e = absurd (cc)
 told_no false false e = (refl, refl)
 
-told_refused : (t s : Bool) (r : Refusal) → verdict_row (Refused r) ≡ says t s → t ≡ true
+told_refused : (t s : Bool) (r : Refusal) → verdict_row (Err r) ≡ says t s → t ≡ true
 told_refused true s r e = refl
-told_refused false true r e = absurd (let z : ◌≡◌ {A = ℕ} 0 1 = cc in omega arith)
-told_refused false false r e = absurd (let z : ◌≡◌ {A = ℕ} 0 1 = cc in omega arith)
+told_refused false true r e = absurd (cc)
+told_refused false false r e = absurd (cc)
 
 module _ {k challenge given region : List ℕ} where
-  pub said_yes : ChecksReply k challenge given region Yes
+  pub said_yes : ChecksReply k challenge given region (Ok true)
       → Lengths k challenge given region × (given ≡ reply k challenge region)
   said_yes p =
       let q = told_yes (check_unfit k challenge given region) (same given (reply k challenge region)) p.answered in
       (fit_lengths k challenge given region q.0, same_equal given (reply k challenge region) q.1)
 
-  pub says_yes : (v : Verdict) → ChecksReply k challenge given region v
-      → Lengths k challenge given region → given ≡ reply k challenge region → v ≡ Yes
+  pub says_yes : (v : Result Bool Refusal) → ChecksReply k challenge given region v
+      → Lengths k challenge given region → given ≡ reply k challenge region → v ≡ Ok true
   says_yes v p f e =
-      verdict_row_settled v Yes
+      verdict_row_settled v (Ok true)
       (p.answered ∙ simp (lengths_fit k challenge given region f, equal_same given (reply k challenge region) e))
 
-  pub said_no : ChecksReply k challenge given region No
+  pub said_no : ChecksReply k challenge given region (Ok false)
       → Lengths k challenge given region × (given ≢ reply k challenge region)
   said_no p =
       let q = told_no (check_unfit k challenge given region) (same given (reply k challenge region)) p.answered in (
@@ -105,18 +103,18 @@ module _ {k challenge given region : List ℕ} where
         λ e. clash (same given (reply k challenge region)) (equal_same given (reply k challenge region) e) q.1,
       )
 
-  pub says_no : (v : Verdict) → ChecksReply k challenge given region v
-      → Lengths k challenge given region → given ≢ reply k challenge region → v ≡ No
+  pub says_no : (v : Result Bool Refusal) → ChecksReply k challenge given region v
+      → Lengths k challenge given region → given ≢ reply k challenge region → v ≡ Ok false
   says_no v p f n =
       let s = untrue (same given (reply k challenge region)) (λ e. n (same_equal given (reply k challenge region) e)) in
-      verdict_row_settled v No (p.answered ∙ simp (lengths_fit k challenge given region f, s))
+      verdict_row_settled v (Ok false) (p.answered ∙ simp (lengths_fit k challenge given region f, s))
 
-  pub said_refused : (r : Refusal) → ChecksReply k challenge given region (Refused r)
+  pub said_refused : (r : Refusal) → ChecksReply k challenge given region (Err r)
       → check_unfit k challenge given region ≡ true
   said_refused r p = told_refused (check_unfit k challenge given region) (same given (reply k challenge region)) r
       p.answered
 
-  pub says_refused : (v : Verdict) → ChecksReply k challenge given region v → check_unfit k challenge given region ≡ true
-      → v ≡ Refused (record { number = length_or_total; place = 0 })
-  says_refused v p e = verdict_row_settled v (Refused (record { number = length_or_total; place = 0 }))
+  pub says_refused : (v : Result Bool Refusal) → ChecksReply k challenge given region v → check_unfit k challenge given region ≡ true
+      → v ≡ Err (record { reason = LengthOrTotal; place = 0 })
+  says_refused v p e = verdict_row_settled v (Err (record { reason = LengthOrTotal; place = 0 }))
       (p.answered ∙ simp e)

@@ -2,8 +2,7 @@
 // lightest byte first.
 #![tactic(auto)]
 
-ghost use Rattle.std.specs.Prelude.{◌≡◌, ◌≤◌, get_or};
-ghost use Rattle.notions.specs.Choice as C;
+ghost use Rattle.std.specs.Prelude.{◌≡◌, get_or};
 ghost use Rattle.steps.specs.Steps as T;
 ghost use Rattle.step_codecs.specs.Promises as P;
 
@@ -13,36 +12,33 @@ use steps::Step;
 // The bytes of a step.
 const STEP_BYTES: usize = 12;
 
-// A flag's bit.
-fn flag(on: bool, bit: u8) -> u8
-    ensures { (result ≡ C.pick on bit 0) × (result ≤ bit) }
-{
-    if on { bit } else { 0 }
-}
-
+// The flags' byte, from bit 0 on.
 fn flags(s: Step) -> u8
     ensures { result ≡ T.flags s }
 {
-    flag(s.cpureads, 1)
-        + flag(s.cpuwrites, 2)
-        + flag(s.interrupt, 4)
-        + flag(s.dmaactive, 8)
-        + flag(s.dmawrites, 16)
+    u8::from(s.cpureads)
+        + 2 * u8::from(s.cpuwrites)
+        + 4 * u8::from(s.interrupt)
+        + 8 * u8::from(s.dmaactive)
+        + 16 * u8::from(s.dmawrites)
 }
 
 // The 12 bytes that a step stands for.
+// No `impl From`, here or for `Monitor`: neither type is of this crate, so the check refuses it as an orphan.
 pub fn step_bytes(s: Step) -> [u8; STEP_BYTES]
     ensures { P.IsStepBytes s result }
 {
-    let f = flags(s);
+    let [pc0, pc1] = s.pc.to_le_bytes();
+    let [cpu0, cpu1] = s.cpuaddress.to_le_bytes();
+    let [dma0, dma1] = s.dmaaddress.to_le_bytes();
     [
-        (s.pc % 256) as u8,
-        (s.pc / 256 % 256) as u8,
-        (s.cpuaddress % 256) as u8,
-        (s.cpuaddress / 256 % 256) as u8,
-        (s.dmaaddress % 256) as u8,
-        (s.dmaaddress / 256 % 256) as u8,
-        f,
+        pc0,
+        pc1,
+        cpu0,
+        cpu1,
+        dma0,
+        dma1,
+        flags(s),
         s.cpudata,
         s.dmadata,
         0,
@@ -55,7 +51,7 @@ pub fn step_bytes(s: Step) -> [u8; STEP_BYTES]
 fn byte_at(bytes: &[u8], i: usize) -> u8
     ensures { result ≡ get_or bytes.now i 0 }
 {
-    if i < bytes.len() { bytes[i] } else { 0 }
+    bytes.get(i).copied().unwrap_or(0)
 }
 
 // Held if the first byte is not 0, and the last PC behind it.

@@ -1,7 +1,9 @@
 // One step of a trace, and the 12 bytes that tell it.
 #![tactic(auto)]
 
+ghost use Rattle.std.specs.Prelude.{◌≡◌, ◌<◌};
 ghost use Rattle.steps.specs.Promises as P;
+ghost use Rattle.steps.specs.Steps as S;
 
 // A step: PC, the address and the data byte of the CPU's access and of the DMA's, and the flag bits 0 to 4.
 #[derive(Clone, Copy)]
@@ -18,20 +20,28 @@ pub struct Step {
     pub dmadata: u8,
 }
 
+// Bit k of a byte is set. By a shift: the library has no test of one bit.
+fn bit(k: u8, x: u8) -> bool
+    requires { k < 8 }
+    ensures { result ≡ S.bit k x }
+{
+    (x >> k) % 2 == 1
+}
+
 // The step that 12 bytes tell.
+// No `impl From`: callers and the promise name `decode`, and an impl beside it would only say the same again.
 pub fn decode(b: [u8; 12]) -> Step
     ensures { P.Decodes b result }
 {
-    let flags = b[6];
     Step {
         pc: octets::number_of_two(b[0], b[1]),
         cpuaddress: octets::number_of_two(b[2], b[3]),
         dmaaddress: octets::number_of_two(b[4], b[5]),
-        cpureads: (flags >> 0) % 2 == 1,
-        cpuwrites: (flags >> 1) % 2 == 1,
-        interrupt: (flags >> 2) % 2 == 1,
-        dmaactive: (flags >> 3) % 2 == 1,
-        dmawrites: (flags >> 4) % 2 == 1,
+        cpureads: bit(0, b[6]),
+        cpuwrites: bit(1, b[6]),
+        interrupt: bit(2, b[6]),
+        dmaactive: bit(3, b[6]),
+        dmawrites: bit(4, b[6]),
         cpudata: b[7],
         dmadata: b[8],
     }

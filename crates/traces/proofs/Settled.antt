@@ -3,8 +3,8 @@ use Rattle.std.specs.Prelude.{◌≡◌, Bool, List, ℕ}
 use Rattle.std.proofs.Common.{sym, ◌∙◌}
 use Rattle.notions.proofs.Settled.{equation_settled}
 use Rattle.refusal.proofs.Settled.{row_settled}
-use Rattle.refusal.specs.declared.Answer.{Answer}
 use Rattle.traces.specs.Promises.{GivesRecord, Misfits, Fits, StepFits}
+use Rattle.refusal.specs.Answers.{Answer}
 
 pub gives_record_settled : (trace : List ℕ) (n : ℕ) (r q : List ℕ) → GivesRecord trace n r → GivesRecord trace n q
     → r ≡ q

@@ -1,8 +1,7 @@
 -- What the functions promise, for all inputs. Assumes nothing.
 use Rattle.std.specs.Prelude.{◌≡◌, Bool, List, ℕ, ltb, replicate}
 use Rattle.notions.specs.Choice.{pick}
-use Rattle.refusal.specs.Answers.{row}
-use Rattle.refusal.specs.declared.Answer.{Answer}
+use Rattle.refusal.specs.Answers.{Answer, row}
 use Rattle.traces.specs.Traces.{step_size, count, step_bytes, misfits, trace_check, step_check}
 
 -- `step_record`: the bytes of step n, and zeros if the trace has no such step

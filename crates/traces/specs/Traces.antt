@@ -1,11 +1,9 @@
 -- What the bytes of a trace are, and what is refused of them. Assumes nothing.
-use Rattle.std.specs.Prelude.{Bool, not, ◌||◌, List, ℕ, ◌*◌, ◌/◌, ◌%◌, eqb, ltb, length, take, drop}
+use Rattle.std.specs.Prelude.{Bool, not, ◌||◌, List, ℕ, ◌*◌, ◌/◌, ◌%◌, eqb, ltb, length, take, drop, Ok}
 use Rattle.notions.specs.Choice.{pick}
 use Rattle.notions.specs.First.{first}
-use Rattle.refusal.specs.Answers.{refused_at}
-use Rattle.refusal.specs.Numbers.{trace_size, room_size, step_not_zero}
-use Rattle.refusal.specs.declared.Answer.{Answer}
-use Rattle.refusal.specs.declared.Answer.TheVariants as call
+use Rattle.refusal.specs.Answers.{Answer, refused_at}
+use Rattle.refusal.specs.declared.Reason.TheVariants.{TraceSize, RoomSize, StepNotZero}
 use Rattle.steps.specs.declared.Step.{Step}
 use Rattle.steps.specs.Steps.{step_of, clean}
 
@@ -44,13 +42,13 @@ misfits b = not (eqb (length b % step_size) 0) || ltb most_steps (count b)
 -- refusals 7 to 9 of a trace and an answer room of so many bytes: all steps are checked before the first is judged
 unfoldable pub trace_check : List ℕ → ℕ → Answer
 trace_check b room =
-    pick (misfits b) (refused_at trace_size 0)
-    (pick (ltb room (answer_size * count b)) (refused_at room_size 0)
-    (pick (ltb (first_unclean b) (count b)) (refused_at step_not_zero (first_unclean b)) call.Done))
+    pick (misfits b) (refused_at TraceSize 0)
+    (pick (ltb room (answer_size * count b)) (refused_at RoomSize 0)
+    (pick (ltb (first_unclean b) (count b)) (refused_at StepNotZero (first_unclean b)) (Ok tt)))
 
 -- the same of one step
 unfoldable pub step_check : List ℕ → ℕ → Answer
 step_check b room =
-    pick (not (eqb (length b) step_size)) (refused_at trace_size 0)
-    (pick (ltb room answer_size) (refused_at room_size 0)
-    (pick (unclean b 0) (refused_at step_not_zero 0) call.Done))
+    pick (not (eqb (length b) step_size)) (refused_at TraceSize 0)
+    (pick (ltb room answer_size) (refused_at RoomSize 0)
+    (pick (unclean b 0) (refused_at StepNotZero 0) (Ok tt)))

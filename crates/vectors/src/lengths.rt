@@ -15,65 +15,39 @@ pub type Pattern = [u8; PATTERN_BYTES];
 pub fn fill(pattern: &mut [u8])
     ensures { pattern.new ≡ P.pattern_of (length pattern.old) }
 {
-    let mut i = 0;
-    while i < pattern.len() {
-        pattern[i] = (i % 251 + 1) as u8;
-        i += 1;
+    for (i, b) in pattern.iter_mut().enumerate() {
+        *b = (i % 251 + 1) as u8;
     }
 }
 
-fn hash_of(out: &mut impl Write, pattern: &[u8], n: usize) -> io::Result<()>
-    requires { n ≤ length pattern.now }
-{
-    line::hash(out, b"pattern", &pattern[0..n])
-}
-
 pub fn hashes(out: &mut impl Write, pattern: &Pattern) -> io::Result<()> {
-    hash_of(out, pattern, 0)?;
-    hash_of(out, pattern, 1)?;
-    hash_of(out, pattern, 55)?;
-    hash_of(out, pattern, 56)?;
-    hash_of(out, pattern, 63)?;
-    hash_of(out, pattern, 64)?;
-    hash_of(out, pattern, 65)?;
-    hash_of(out, pattern, 119)?;
-    hash_of(out, pattern, 120)?;
-    hash_of(out, pattern, 127)?;
-    hash_of(out, pattern, 128)?;
-    hash_of(out, pattern, 65535)?;
-    hash_of(out, pattern, 65536)?;
-    hash_of(out, pattern, 131071)?;
-    hash_of(out, pattern, 131072)?;
-    hash_of(out, pattern, 131073)
+    for n in [
+        0, 1, 55, 56, 63, 64, 65, 119, 120, 127, 128, 65_535, 65_536, 131_071, 131_072, 131_073,
+    ] {
+        line::hash(out, b"pattern", &pattern[..n])?;
+    }
+    Ok(())
 }
 
-fn mac_of(out: &mut impl Write, pattern: &[u8], key: usize, message: usize) -> io::Result<()>
+fn mac(out: &mut impl Write, pattern: &Pattern, key: usize, message: usize) -> io::Result<()>
     requires { (key ≤ length pattern.now) × (message ≤ length pattern.now) }
 {
-    line::mac(out, b"pattern", &pattern[0..key], &pattern[0..message])
+    line::mac(out, b"pattern", &pattern[..key], &pattern[..message])
 }
 
 pub fn keys(out: &mut impl Write, pattern: &Pattern) -> io::Result<()> {
-    mac_of(out, pattern, 0, 28)?;
-    mac_of(out, pattern, 1, 28)?;
-    mac_of(out, pattern, 63, 28)?;
-    mac_of(out, pattern, 64, 28)?;
-    mac_of(out, pattern, 65, 28)?;
-    mac_of(out, pattern, 131, 28)?;
-    mac_of(out, pattern, 65536, 28)?;
-    mac_of(out, pattern, 65537, 28)
+    for key in [0, 1, 63, 64, 65, 131, 65_536, 65_537] {
+        mac(out, pattern, key, 28)?;
+    }
+    Ok(())
 }
 
 pub fn messages(out: &mut impl Write, pattern: &Pattern) -> io::Result<()> {
-    mac_of(out, pattern, 20, 0)?;
-    mac_of(out, pattern, 20, 1)?;
-    mac_of(out, pattern, 20, 63)?;
-    mac_of(out, pattern, 20, 64)?;
-    mac_of(out, pattern, 20, 65)?;
-    mac_of(out, pattern, 20, 65535)?;
-    mac_of(out, pattern, 20, 65536)?;
-    mac_of(out, pattern, 20, 65537)?;
-    mac_of(out, pattern, 0, 0)?;
-    mac_of(out, pattern, 65536, 65536)?;
-    mac_of(out, pattern, 65537, 65537)
+    for message in [0, 1, 63, 64, 65, 65_535, 65_536, 65_537] {
+        mac(out, pattern, 20, message)?;
+    }
+    for n in [0, 65_536, 65_537] {
+        mac(out, pattern, n, n)?;
+    }
+    Ok(())
 }

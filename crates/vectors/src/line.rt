@@ -1,6 +1,6 @@
 // A line of output: the call, the name of its input, the input's numbers, and the answer, one space apart.
-use refusal::{Answer, Refusal};
-use sha256::{Bytes32, Sha};
+use refusal::Refusal;
+use sha256::{DIGEST, Sha};
 use std::io;
 use std::io::Write;
 
@@ -17,35 +17,20 @@ fn length(out: &mut impl Write, bytes: &[u8]) -> io::Result<()> {
     number(out, bytes.len() as u64)
 }
 
-fn wide(x: u8) -> u64 {
-    x as u64
-}
-
 fn hex(out: &mut impl Write, bytes: &[u8]) -> io::Result<()> {
     text(out, b" ")?;
-    let mut i = 0;
-    while i < bytes.len() {
-        let b = bytes[i];
+    for b in bytes {
         write!(out, "{b:02x}")?;
-        i += 1;
     }
     Ok(())
 }
 
-fn word(out: &mut impl Write, x: u32) -> io::Result<()> {
-    write!(out, "{x:08x}")
-}
-
 fn words(out: &mut impl Write, w: [u32; 8]) -> io::Result<()> {
     text(out, b" ")?;
-    word(out, w[0])?;
-    word(out, w[1])?;
-    word(out, w[2])?;
-    word(out, w[3])?;
-    word(out, w[4])?;
-    word(out, w[5])?;
-    word(out, w[6])?;
-    word(out, w[7])
+    for x in w {
+        write!(out, "{x:08x}")?;
+    }
+    Ok(())
 }
 
 fn begin(out: &mut impl Write, call: &[u8], name: &[u8]) -> io::Result<()> {
@@ -59,33 +44,27 @@ fn end(out: &mut impl Write) -> io::Result<()> {
 }
 
 fn refused(out: &mut impl Write, r: Refusal) -> io::Result<()> {
-    text(out, b" refused")?;
-    number(out, wide(r.number))?;
-    number(out, r.place as u64)
+    write!(out, " {r}")
 }
 
-fn digest(out: &mut impl Write, d: Bytes32) -> io::Result<()> {
-    let answer = d.answer;
-    let bytes = d.bytes;
-    match answer {
-        Answer::Done => hex(out, &bytes)?,
-        Answer::Refused(r) => refused(out, r)?,
+fn digest(out: &mut impl Write, d: Result<[u8; DIGEST], Refusal>) -> io::Result<()> {
+    match d {
+        Ok(bytes) => hex(out, &bytes)?,
+        Err(r) => refused(out, r)?,
     }
     end(out)
 }
 
-fn taken(out: &mut impl Write, answer: Answer) -> io::Result<()> {
+fn taken(out: &mut impl Write, answer: Result<(), Refusal>) -> io::Result<()> {
     match answer {
-        Answer::Done => text(out, b" taken"),
-        Answer::Refused(r) => refused(out, r),
+        Ok(()) => text(out, b" taken"),
+        Err(r) => refused(out, r),
     }
 }
 
 fn state(out: &mut impl Write, s: Sha) -> io::Result<()> {
-    let w = s.words;
-    let block = s.block;
-    words(out, w)?;
-    hex(out, &block)?;
+    words(out, s.words)?;
+    hex(out, &s.block)?;
     number(out, s.total)?;
     end(out)
 }
@@ -109,11 +88,9 @@ pub fn take_in(out: &mut impl Write, name: &[u8], s: Sha, bytes: &[u8]) -> io::R
     number(out, s.total)?;
     length(out, bytes)?;
     let t = s.take_in(bytes);
-    let answer = t.answer;
-    let next = t.state;
-    taken(out, answer)?;
-    state(out, next)?;
-    Ok(next)
+    taken(out, t.answer)?;
+    state(out, t.state)?;
+    Ok(t.state)
 }
 
 pub fn finish(out: &mut impl Write, name: &[u8], s: Sha) -> io::Result<()> {

@@ -1,5 +1,5 @@
 // The running hash: a message in parts, and states that no message reaches.
-ghost use Rattle.std.specs.Prelude.{◌≡◌, ◌≤◌, length};
+ghost use Rattle.std.specs.Prelude.{◌≡◌, length};
 
 use crate::lengths::Pattern;
 use crate::line;
@@ -14,40 +14,40 @@ fn after(state: Sha, bytes: &[u8]) -> Sha {
 
 // One turn's parts, an empty one among them. 293 is odd, so that in 64 turns each part meets every filling of the
 // block.
+const TURN: usize = 293;
+
 fn turn(state: Sha, bytes: &[u8]) -> Sha
     requires { length bytes.now ≡ 293 }
 {
-    let s1 = after(state, &bytes[0..1]);
-    let s2 = after(s1, &bytes[1..64]);
-    let s3 = after(s2, &bytes[64..64]);
-    let s4 = after(s3, &bytes[64..128]);
-    let s5 = after(s4, &bytes[128..193]);
-    after(s5, &bytes[193..])
+    let mut s = state;
+    for (from, to) in [
+        (0, 1),
+        (1, 64),
+        (64, 64),
+        (64, 128),
+        (128, 193),
+        (193, TURN),
+    ] {
+        s = after(s, &bytes[from..to]);
+    }
+    s
 }
 
 fn parts(message: &[u8]) -> Sha {
     let mut s = Sha::start();
-    let mut at = 0;
-    while message.len() - at >= 293 {
-        let next = turn(s, &message[at..at + 293]);
-        s = next;
-        at += 293;
+    let mut turns = message.chunks_exact(TURN);
+    for bytes in &mut turns {
+        s = turn(s, bytes);
     }
-    after(s, &message[at..])
+    after(s, turns.remainder())
 }
 
-// The first n bytes in parts, and then one byte more.
-fn first_in_parts(out: &mut impl Write, pattern: &[u8], n: usize) -> io::Result<()>
-    requires { n ≤ length pattern.now }
-{
-    let whole = parts(&pattern[0..n]);
+// The first 131,072 bytes in parts, and then one byte more.
+pub fn in_parts(out: &mut impl Write, pattern: &Pattern) -> io::Result<()> {
+    let whole = parts(&pattern[..131_072]);
     line::finish(out, b"parts", whole)?;
     let more = line::take_in(out, b"parts", whole, b"x")?;
     line::finish(out, b"parts", more)
-}
-
-pub fn in_parts(out: &mut impl Write, pattern: &Pattern) -> io::Result<()> {
-    first_in_parts(out, pattern, 131072)
 }
 
 // A state of any total, whose block has no zero byte.
@@ -78,35 +78,30 @@ pub fn started(out: &mut impl Write) -> io::Result<()> {
     line::finish(out, b"started", s)
 }
 
-fn made_up_state(out: &mut impl Write, total: u64) -> io::Result<()> {
-    let s = state(total);
-    line::take_in(out, b"made-up", s, b"")?;
-    line::take_in(out, b"made-up", s, b"x")?;
-    line::finish(out, b"made-up", s)
-}
-
 pub fn made_up(out: &mut impl Write) -> io::Result<()> {
-    made_up_state(out, 0)?;
-    made_up_state(out, 1)?;
-    made_up_state(out, 55)?;
-    made_up_state(out, 56)?;
-    made_up_state(out, 63)?;
-    made_up_state(out, 131071)?;
-    made_up_state(out, 131072)?;
-    made_up_state(out, 131073)?;
-    made_up_state(out, 0x1_0000_0000)?;
-    made_up_state(out, 0xffff_ffff_ffff_ffff)
-}
-
-fn many_bytes(out: &mut impl Write, total: u64, pattern: &[u8], n: usize) -> io::Result<()>
-    requires { n ≤ length pattern.now }
-{
-    line::take_in(out, b"made-up", state(total), &pattern[0..n])?;
+    for total in [
+        0,
+        1,
+        55,
+        56,
+        63,
+        131_071,
+        131_072,
+        131_073,
+        0x1_0000_0000,
+        u64::MAX,
+    ] {
+        let s = state(total);
+        line::take_in(out, b"made-up", s, b"")?;
+        line::take_in(out, b"made-up", s, b"x")?;
+        line::finish(out, b"made-up", s)?;
+    }
     Ok(())
 }
 
 pub fn to_the_limit(out: &mut impl Write, pattern: &Pattern) -> io::Result<()> {
-    many_bytes(out, 1, pattern, 131071)?;
-    many_bytes(out, 1, pattern, 131072)?;
-    many_bytes(out, 0, pattern, 131073)
+    for (total, n) in [(1, 131_071), (1, 131_072), (0, 131_073)] {
+        line::take_in(out, b"made-up", state(total), &pattern[..n])?;
+    }
+    Ok(())
 }

@@ -1,39 +1,30 @@
 -- `file_segments::fill` meets its contract. Assumes nothing.
-use mathlib.Core.Path.{refl, ap, ◌∙◌}
-use Prim.Native.Nat.{ℕ}
-use native.Mathlib.Omega.{arith}
-use lib.ListN.{length, length-replicate}
+use Rattle.std.proofs.Common.{arith, refl, ap, ◌∙◌, ℕ, length, rules}
 use Rattle.file_segments.specs.Segments.{segments, image}
-use Rattle.file_segments.proofs.Described.{size_at_lem}
-use Rattle.file_segments.proofs.Walk.{laid_none, laid_next, laid_last, laid_all}
+use Rattle.file_segments.proofs.Walk.{turn, laid_none, laid_more, laid_through}
 use Rattle.file_segments.proofs.fill.Goals as goal
 
 pub loop-p-init : goal.loop-p-init
 loop-p-init c =
     let h = c.args in
-    (omega arith, refl, laid_none h.body.now _ (length h.memory.now) c.clear.ensures)
-
-pub returns-then-n-end : goal.returns-then-n-end
-returns-then-n-end c =
-    let h = c.loop-p in
-    let b = c.args.body.now in
-    let size = c.two_bytes_at-size.ensures.0 ∙ size_at_lem b h.p in
-    let start = c.two_bytes_at-start.ensures.0 in
-    laid_last h.invariant.2 _ _ _ (omega arith) size start (omega arith) c.store.ensures
-    ∙ ap (λ (n : ℕ). image n b (segments b)) (ap length c.clear.ensures ∙ length-replicate {A = ℕ} _ 0)
+    let s = c.into_iter-p-iterator.ensures.into_iter_gives in
+    let f = c.of-p-items.ensures in
+    (tt, tt, cc (s, f.0), refl, laid_none h.body.now _ (length h.memory.now) _ (cc (s, f.1)) (search rules))
 
 pub loop-p-preserved : goal.loop-p-preserved
 loop-p-preserved c =
     let h = c.loop-p in
-    let b = c.args.body.now in
-    let size = c.two_bytes_at-size.ensures.0 ∙ size_at_lem b h.p in
-    let start = c.two_bytes_at-start.ensures.0 in
-    let laid = c.store-in-loop-p.ensures in
-    let same = c.store-in-loop-p.auto.room ∙ h.invariant.1 in
-    (omega arith, same, laid_next h.invariant.2 _ _ _ (omega arith) size start laid)
+    let t = turn c.args.body.now _ _ _ h.invariant.2 c.in-Some.ensures.steps in (
+      tt,
+      tt,
+      t.2,
+      c.store.auto.room ∙ h.invariant.3,
+      laid_more h.invariant.4 _ _ t.1 t.3 (cc (c.store.ensures, c.start_at.ensures.0, c.contents_at.ensures, t.0)),
+    )
 
 pub returns : goal.returns
 returns c =
+    let h = c.loop-p in
     let b = c.args.body.now in
-    laid_all c.loop-p.invariant.2 (omega arith)
-    ∙ ap (λ (n : ℕ). image n b (segments b)) (ap length c.clear.ensures ∙ length-replicate {A = ℕ} _ 0)
+    laid_through h.invariant.4 (omega (arith, c.in-None.ensures.steps, ap length h.invariant.2))
+    ∙ ap (λ (n : ℕ). image n b (segments b)) c.fill.ensures.len

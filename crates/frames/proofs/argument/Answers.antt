@@ -5,5 +5,5 @@ use Rattle.frames.proofs.argument.Goals as goal
 pub returns : goal.returns
 returns c =
     let a = c.args in
-    stands a.bytes.now a.i c.begin-at.result c.least.result _ _
-    c.begin-at.ensures c.least.ensures c.size_at.ensures c.least-size.ensures
+    stands a.bytes.now a.i c.begin-at.result c.min.result _ _
+    c.begin-at.ensures c.min.ensures c.size_at.ensures c.min-size.ensures

@@ -6,4 +6,4 @@ pub returns : goal.returns
 returns c =
     let a = c.args in
     copied a.bytes.now a.i a.room.now c.argument-given.result.now _ _
-    c.argument-given.ensures c.least-fits.ensures c.copy_from_slice.ensures.after
+    c.argument-given.ensures c.min-fits.ensures c.copy_from_slice.ensures.after

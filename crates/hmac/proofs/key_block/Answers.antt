@@ -1,7 +1,6 @@
 -- `hmac::key_block` meets its contract. Assumes nothing.
 use native.Mathlib.Omega.{arith}
-use lib.ListN.{length}
-use Rattle.sha256.proofs.Laws.{over_not, gives_bytes}
+use Rattle.sha256.proofs.Laws.{within_standard}
 use Rattle.hmac.proofs.Keys.{key_long, key_short}
 use Rattle.hmac.proofs.key_block.Goals as goal
 
@@ -9,7 +8,7 @@ pub returns-then-key-gt-BLOCK : goal.returns-then-key-gt-BLOCK
 returns-then-key-gt-BLOCK c =
     let k = c.args.key.now in
     key_long k _ c.block_of.result c.if-key-gt-BLOCK.true
-    (gives_bytes c.hash-h.ensures (over_not (length k) (omega arith))) c.block_of.ensures
+    (within_standard k c.digest_of-digest.ensures (omega arith)) c.block_of.ensures
 
 pub returns : goal.returns
 returns c =

@@ -1,7 +1,5 @@
 -- `monitor::run` meets its contract. Assumes nothing.
-use Prim.Native.Nat.{◌≤◌, ◌-◌}
-use mathlib.Core.Path.{◌≡◌}
-use Rattle.traces.specs.Traces.{count}
+use Prim.Native.Nat.{◌≤◌}
 use Rattle.monitor.proofs.Turns.{After}
 use Rattle.monitor.proofs.run.Given as goal
 
@@ -9,10 +7,4 @@ use Rattle.monitor.proofs.run.Given as goal
 -- steps
 abbrev pub invariant-loop-i : goal.invariant-loop-i
 invariant-loop-i l =
-    (l.i ≤ l.steps)
-    × (l.steps ≡ count l.trace)
-    × (l.resets ≤ l.i)
-    × After l.l l.trace l.initial.memory l.initial.room l.i l.memory l.room l.m l.resets
-
-abbrev pub decreases-loop-i : goal.decreases-loop-i
-decreases-loop-i l = l.steps - l.i
+    (l.resets ≤ l.i) × After l.l l.trace l.initial.memory l.initial.room l.i l.memory l.room l.m l.resets

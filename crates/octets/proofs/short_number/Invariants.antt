@@ -1,10 +1,6 @@
 -- `octets::short_number` meets its contract. Assumes nothing.
-use Rattle.octets.proofs.Reading.{ReadFrom}
+use Rattle.octets.proofs.Reading.{ReadBehind}
 use Rattle.octets.proofs.short_number.Given as goal
 
--- behind i all bytes are read
-abbrev pub invariant-loop-i : goal.invariant-loop-i
-invariant-loop-i l = ReadFrom l.bytes l.i l.n
-
-abbrev pub decreases-loop-i : goal.decreases-loop-i
-decreases-loop-i l = l.i
+abbrev pub invariant-loop-b : goal.invariant-loop-b
+invariant-loop-b l = ReadBehind l.bytes l.b-iterator.iter.rest.now l.n

@@ -10,4 +10,4 @@ returns-then-room-at c = let a = c.args in sym (sets_out a.room.now a.x.now a.at
 pub returns : goal.returns
 returns c =
     let a = c.args in
-    stored a.room.now a.x.now _ a.at _ c.least-k.result c.least-k.ensures (omega arith) c.copy_from_slice.ensures.after
+    stored a.room.now a.x.now _ a.at _ c.min-k.result c.min-k.ensures (omega arith) c.copy_from_slice.ensures.after

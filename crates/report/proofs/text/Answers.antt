@@ -1,4 +1,6 @@
 -- `report::text` meets its contract. Assumes nothing.
+use mathlib.Core.Path.{refl}
+use Rattle.std.proofs.Common.{rules}
 use Rattle.report.proofs.Calls.{tellable, whole}
 use Rattle.report.proofs.text.Goals as goal
 
@@ -9,4 +11,5 @@ tell-requires c =
 
 pub returns : goal.returns
 returns c =
-    whole _ _ _ _ _ _ _ _ _ c.judge-o.ensures c.tell.ensures
+    let same = c.tell.ensures.same in
+    whole _ _ _ _ _ _ _ _ _ _ c.judge-o.ensures refl refl (search (rules, same)) c.tell.ensures

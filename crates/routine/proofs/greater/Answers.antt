@@ -1,29 +1,13 @@
--- `routine::greater` meets its contract. Assumes nothing.
-use mathlib.Core.Path.{refl}
-use native.Mathlib.Omega.{arith}
-use Rattle.routine.proofs.Strings.{greater_short, greater_more, greater_differ, greater_none}
+-- `routine::greater` meets its contract: the library's order of slices is `greater`. Assumes nothing.
+use Rattle.std.proofs.Common.{refl}
+use Rattle.std.proofs.lemmas.Cmp.{same_from_slice_cmp_tested, ranked}
+use Rattle.std.specs.Ordering.{nat_cmp, is_gt}
+use Rattle.routine.specs.Strings.{greater}
+use Rattle.routine.proofs.Strings.{greater_ranked}
 use Rattle.routine.proofs.greater.Goals as goal
 
-pub loop-i-init : goal.loop-i-init
-loop-i-init c = (omega arith, refl)
-
-pub returns-then-b-i : goal.returns-then-b-i
-returns-then-b-i c =
-    greater_short c.args.a.now c.args.b.now c.loop-i.i (omega arith) c.loop-i.invariant.1
-    (omega arith)
-
-pub returns-then-x-y : goal.returns-then-x-y
-returns-then-x-y c =
-    greater_differ c.args.a.now c.args.b.now c.loop-i.i (omega arith) c.loop-i.invariant.1
-    (omega arith) c.if-x-y.true
-
-pub loop-i-preserved : goal.loop-i-preserved
-loop-i-preserved c = (
-  omega arith,
-  greater_more c.args.a.now c.args.b.now c.loop-i.i (omega arith)
-      c.loop-i.invariant.1 (omega arith) c.if-x-y.false,
-)
-
 pub returns : goal.returns
+unfolding greater
 returns c =
-    greater_none c.args.a.now c.args.b.now c.loop-i.i (omega arith) c.loop-i.invariant.1
+    same_from_slice_cmp_tested nat_cmp is_gt greater refl (λ y b. refl) (λ x a. refl)
+    (λ x y a b o h. greater_ranked x y a b o (ranked x y o h)) c.args.a.now c.args.b.now c.gt.result c.gt.ensures

@@ -1,6 +1,7 @@
 -- `routine::token` meets its contract. Assumes nothing.
-use Rattle.routine.proofs.Requests.{token_made}
+use Rattle.routine.specs.Routine.{token}
 use Rattle.routine.proofs.token.Goals as goal
 
 pub returns : goal.returns
-returns c = token_made _ _ _ c.mac.ensures
+unfolding token
+returns c = c.mac.ensures

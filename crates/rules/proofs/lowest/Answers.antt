@@ -1,21 +1,19 @@
--- `rules::lowest` meets its contract. Assumes nothing.
-use Rattle.rules.proofs.Laws.{lowest_in_turn}
+-- `rules::lowest` meets its contract: the library finds the first rule that is broken.
+use Rattle.std.proofs.Common.{rules, ap, sym, ◌∙◌}
+use Rattle.std.proofs.lemmas.Iterator.{YieldsList-from_slice}
+use Rattle.std.proofs.lemmas.Iterator.Search.{position_from_yields_List}
+use Rattle.rules.specs.Rules.{in_order}
+use Rattle.rules.proofs.Laws.{number_at, lowest_at}
 use Rattle.rules.proofs.lowest.Goals as goal
 
-pub returns : goal.returns
-returns c =
-    let h = c.args in
-    simp (
-      c.number_if.ensures,
-      c.number_if-from2.ensures,
-      c.number_if-from3.ensures,
-      c.number_if-from4.ensures,
-      c.number_if-from5.ensures,
-      c.number_if-from6.ensures,
-      c.number_if-from7.ensures,
-      c.number_if-from8.ensures,
-      c.number_if-from9.ensures,
-      c.number_if-from10.ensures,
-    )
-    (lowest_in_turn h.b.r1 h.b.r2 h.b.r3 h.b.r4 h.b.r5 h.b.r6 h.b.r7 h.b.r8
-    h.b.r9 h.b.r10)
+pub returns-in-Some : goal.returns-in-Some
+returns-in-Some c =
+    let e = position_from_yields_List (λ x. x) _ _ c.position.result c.position.ensures.ran
+    (YieldsList-from_slice (in_order c.args.b) cc) (λ x b q k. search rules) in
+    ap number_at (sym c.in-Some.is ∙ e) ∙ lowest_at c.args.b
+
+pub returns-in-None : goal.returns-in-None
+returns-in-None c =
+    let e = position_from_yields_List (λ x. x) _ _ c.position.result c.position.ensures.ran
+    (YieldsList-from_slice (in_order c.args.b) cc) (λ x b q k. search rules) in
+    ap number_at (sym c.in-None.is ∙ e) ∙ lowest_at c.args.b

@@ -3,17 +3,11 @@ use mathlib.Core.Path.{◌≡◌, ap, ◌∙◌}
 use mathlib.Core.List.{List}
 use Prim.Native.Nat.{ℕ}
 use native.Mathlib.Omega.{arith}
-use lib.ListN.{length, take, length-take}
+use lib.ListN.{length, take}
 use lib.Seq.{paste, length-take-le}
 use Rattle.sha256.proofs.Running.{block_joined}
 use borrow.Author.Rules.{rules}
 use Rattle.sha256.proofs.part.Goals as goal
-
-pub slice_bounds-block_of-end : goal.slice_bounds-block_of-end
-slice_bounds-block_of-end c = simp length-take (omega arith)
-
-pub block_of-requires : goal.block_of-requires
-block_of-requires c = tt
 
 pub returns : goal.returns
 returns c =

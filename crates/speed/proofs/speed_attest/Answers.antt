@@ -3,4 +3,4 @@ use Rattle.speed.proofs.Numbers.{attest_number}
 use Rattle.speed.proofs.speed_attest.Goals as goal
 
 pub returns : goal.returns
-returns c = attest_number _ _ _ _ _ c.attest.ensures c.answered.ensures
+returns c = attest_number _ _ _ _ _ c.attest.ensures c.number.ensures

@@ -3,4 +3,4 @@ use Rattle.speed.proofs.Rooms.{holds}
 use Rattle.speed.proofs.speed_hash.Goals as goal
 
 pub returns : goal.returns
-returns c = holds _ _ c.args.room.now _ c.store.ensures c.hash.ensures.given
+returns c = holds _ _ _ _ c.args.room.now _ _ c.store.ensures c.unwrap_or-d.ensures c.hash.ensures

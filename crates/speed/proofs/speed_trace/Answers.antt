@@ -3,4 +3,4 @@ use Rattle.speed.proofs.Numbers.{trace_number}
 use Rattle.speed.proofs.speed_trace.Goals as goal
 
 pub returns : goal.returns
-returns c = trace_number _ _ _ _ _ _ _ _ c.trace.ensures c.traced.ensures
+returns c = trace_number _ _ _ _ _ _ _ _ c.trace.ensures c.number.ensures

@@ -1,17 +1,16 @@
 -- `speed::store` meets its contract. Assumes nothing.
-use mathlib.Core.Path.{◌≡◌, ap, ◌∙◌}
-use mathlib.Core.List.{◌++◌}
-use Prim.Native.Nat.{ℕ, ◌+◌, ◌≤◌}
+use mathlib.Core.Path.{ap}
+use mathlib.Core.List.{List, ◌++◌}
+use Prim.Native.Nat.{ℕ}
 use native.Mathlib.Omega.{arith}
 use borrow.Author.Tests.{le-ltb}
-use lib.ListN.{length, drop}
-use lib.Seq.{sets-eq}
+use lib.ListN.{drop, length-take}
 use Rattle.speed.proofs.store.Goals as goal
+
+pub copy_from_slice-requires : goal.copy_from_slice-requires
+copy_from_slice-requires c = simp length-take (omega arith)
 
 pub returns : goal.returns
 returns c =
-    let b = c.args.bytes.now in
-    let room = c.args.room.now in
-    let h : 32 ≤ length room = omega arith in
-    let e : 0 + length b ≡ 32 = omega arith in
-    simp (le-ltb _ _ h) (c.store.ensures ∙ sets-eq b room 0 (omega (arith, h, e)) ∙ ap (λ (k : ℕ). b ++ drop k room) e)
+    simp (le-ltb _ _ c.if-room-lt-DIGEST_BYTES.false)
+    (ap (λ (l : List ℕ). l ++ drop 32 c.args.room.now) c.copy_from_slice.ensures.after)

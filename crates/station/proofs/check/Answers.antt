@@ -1,17 +1,13 @@
 -- `station::check` meets its contract. Assumes nothing.
-use mathlib.Core.Path.{sym, ◌∙◌}
-use Rattle.station.proofs.Checks.{check_refused, check_yes, check_no}
+use Rattle.station.proofs.Checks.{check_refused, checked}
 use Rattle.station.proofs.check.Goals as goal
 
 pub returns-then-key-challenge : goal.returns-then-key-challenge
-returns-then-key-challenge c = check_refused _ _ _ _ c.if-key-challenge.true
+returns-then-key-challenge c =
+    let z = c.args in
+    check_refused z.key.now z.challenge.now z.reply.now z.region.now c.if-key-challenge.true c.into.ensures
 
-pub returns-then-equal : goal.returns-then-equal
-returns-then-equal c =
-    check_yes _ _ _ _ c.if-key-challenge.false c.reply.result c.reply.ensures
-    (sym c.equal.ensures ∙ c.if-equal.true)
-
-pub returns-else-equal : goal.returns-else-equal
-returns-else-equal c =
-    check_no _ _ _ _ c.if-key-challenge.false c.reply.result c.reply.ensures
-    (sym c.equal.ensures ∙ c.if-equal.false)
+pub returns : goal.returns
+returns c =
+    let z = c.args in
+    checked z.key.now z.challenge.now z.reply.now z.region.now c.if-key-challenge.false _ c.in_ok-due.ensures c.equal.ensures

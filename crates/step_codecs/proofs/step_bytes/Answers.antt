@@ -1,7 +1,7 @@
 -- `step_codecs::step_bytes` meets its contract. Assumes nothing.
-use Rattle.step_codecs.proofs.Values.{step_is}
+use Rattle.steps.specs.Steps.{encode}
 use Rattle.step_codecs.proofs.step_bytes.Goals as goal
 
 pub returns : goal.returns
-returns c =
-    step_is c.args.s _ c.flags-f.ensures
+unfolding encode
+returns c = simp (c.to_le_bytes.ensures, c.to_le_bytes-2.ensures, c.to_le_bytes-3.ensures, c.flags.ensures)

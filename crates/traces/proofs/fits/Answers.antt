@@ -1,7 +1,8 @@
--- `traces::fits` meets its contract. Assumes nothing.
-use mathlib.Core.Path.{ap, sym, ◌∙◌}
+-- `traces::fits` meets its contract: each refusal is the first that the definition gives.
+use Rattle.std.proofs.Common.{ap, sym, ◌∙◌}
 use borrow.Author.Tests.{lt-ltb, le-ltb}
-use Rattle.refusal.specs.Answers.{row}
+use Rattle.refusal.specs.Answers.{refusal_row}
+use Rattle.notions.proofs.First.{found_some, found_nothing}
 use Rattle.traces.specs.Traces.{trace_check}
 use Rattle.traces.proofs.fits.Goals as goal
 
@@ -9,27 +10,24 @@ pub returns-then-misfits : goal.returns-then-misfits
 unfolding trace_check
 returns-then-misfits c =
     let m = sym c.misfits.ensures ∙ c.if-misfits.true in
-    record { answered = c.refused.ensures ∙ simp m }
+    record { answered = ap refusal_row c.into.ensures ∙ simp m }
 
-pub returns-then-room-steps : goal.returns-then-room-steps
+pub returns-then-room-trace : goal.returns-then-room-trace
 unfolding trace_check
-returns-then-room-steps c =
+returns-then-room-trace c =
     let m = sym c.misfits.ensures ∙ c.if-misfits.false in
-    record { answered = c.refused-then-room-steps.ensures ∙ simp (m, lt-ltb _ _ c.if-room-steps.true) }
+    record { answered = ap refusal_row c.into-then-room-trace.ensures ∙ simp (m, lt-ltb _ _ c.if-room-trace.true) }
 
-pub returns-then-place-steps : goal.returns-then-place-steps
+pub returns-in-Some : goal.returns-in-Some
 unfolding trace_check
-returns-then-place-steps c =
+returns-in-Some c =
     let m = sym c.misfits.ensures ∙ c.if-misfits.false in
-    let f = sym c.first_unclean-place.ensures in
-    record {
-      answered = ap row c.refused_at.ensures
-          ∙ simp (m, le-ltb _ _ c.if-room-steps.false, f, lt-ltb _ _ c.if-place-steps.true);
-    }
+    let f = found_some _ _ _ (sym c.first_unclean.ensures ∙ c.in-Some.is) in
+    record { answered = ap refusal_row c.at.ensures ∙ simp (m, le-ltb _ _ c.if-room-trace.false, f.0, f.1) }
 
 pub returns : goal.returns
 unfolding trace_check
 returns c =
     let m = sym c.misfits.ensures ∙ c.if-misfits.false in
-    let f = sym c.first_unclean-place.ensures in
-    record { answered = simp (m, le-ltb _ _ c.if-room-steps.false, f, le-ltb _ _ c.if-place-steps.false) }
+    let f = found_nothing _ _ (sym c.first_unclean.ensures ∙ c.in_default.is) in
+    record { answered = simp (m, le-ltb _ _ c.if-room-trace.false, f) }

@@ -7,4 +7,4 @@ use Rattle.sha256.proofs.Sha.absorb_within.Goals as goal
 pub returns : goal.returns
 returns c =
     let z = c.args in
-    taken_within z.self (search rules) z.x.now c.part-block.result (omega arith) c.part-block.ensures
+    taken_within z.self (search rules) z.x.now c.part-self.result (omega arith) c.part-self.ensures

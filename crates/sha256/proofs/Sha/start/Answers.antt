@@ -6,9 +6,6 @@ use lib.ListN.{replicate}
 use Rattle.sha256.specs.Running.{started}
 use Rattle.sha256.proofs.Sha.start.Goals as goal
 
-pub initial-requires : goal.initial-requires
-initial-requires c = tt
-
 pub returns : goal.returns
 unfolding started
 returns c = ap (λ (w : List ℕ). record { words = w; block = replicate 64 0; total = 0 }) c.initial.ensures

@@ -1,10 +1,7 @@
--- `vectors::lengths::fill` meets its contract. Assumes nothing.
-use Rattle.std.proofs.Common.{◌-◌, length}
-use Rattle.vectors.proofs.Filled.{Filled}
+-- `vectors::lengths::fill`: its first i bytes are the pattern's. Assumes nothing.
+use Rattle.std.proofs.Common.{◌≡◌, take}
+use Rattle.vectors.specs.Pattern.{pattern_of}
 use Rattle.vectors.proofs.lengths.fill.Given as goal
 
 abbrev pub invariant-loop-i : goal.invariant-loop-i
-invariant-loop-i l = Filled l.initial.pattern l.pattern l.i
-
-abbrev pub decreases-loop-i : goal.decreases-loop-i
-decreases-loop-i l = length l.pattern - l.i
+invariant-loop-i l = take l.i l.pattern ≡ pattern_of l.i

@@ -15,12 +15,17 @@ use Rattle.refusal.specs.declared.Reason.TheVariants.{Segment}
 use Rattle.notions.proofs.Tests.{neither}
 use Rattle.notions.proofs.First.{none_found}
 use Rattle.refusal.proofs.Order.{done_passed}
+use Rattle.octets.specs.Numbers.{number_of_two}
 use Rattle.octets.proofs.Laid.{laid_part}
 use Rattle.layout.specs.Calls.{memory_bytes}
 use Rattle.file_segments.specs.Segments.{head_size, start_at, size_at, place, reached, segments, fails_at}
 use Rattle.file_segments.specs.Segments.{segment_fails, first_wrong, segment_check, contents_at, image, described}
 use Rattle.file_segments.proofs.Lists.{paste_in, paste_below, paste_above}
 use Rattle.std.specs.Prelude.{Ok}
+
+-- the length is the number two bytes behind the start
+pub size_at_lem : (b : List ℕ) (p : ℕ) → start_at b (p + 2) ≡ size_at b p
+size_at_lem b p = let e : p + 2 + 1 ≡ p + 3 = omega arith in ap (λ (i : ℕ). number_of_two (get_or b (p + 2) 0) (get_or b i 0)) e
 
 -- ---- a segment that does not fail
 

@@ -35,6 +35,11 @@ is_whole Cut = false
 pub not_whole : {P : Type 0} (f : Framed) → is_whole f ≡ false → f ≡ Whole → P
 not_whole f t e = clash (is_whole f) (ap is_whole e) t
 
+pub is_whole_lem : (f : Framed) → is_whole f ≡ true → f ≡ Whole
+is_whole_lem (Needs k) e = clash false e refl
+is_whole_lem Whole e = refl
+is_whole_lem Cut e = clash false e refl
+
 not_not : (t : Bool) → not t ≡ false → t ≡ true
 not_not true e = refl
 not_not false e = sym e

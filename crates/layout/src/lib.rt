@@ -90,10 +90,16 @@ fn region_at(b: &[u8; LAYOUT_BYTES], k: usize) -> Region
     }
 }
 
+// Three searches by `for`: with `find` and its closures a check took twice as long.
 fn first_reversed(b: &[u8; LAYOUT_BYTES]) -> Option<usize>
     ensures { result ≡ found S.regions (λ k. R.reversed (S.region b.now k)) }
 {
-    (0..REGIONS).find(|k| region_at(b, *k).is_reversed())
+    for k in 0..REGIONS {
+        if region_at(b, k).is_reversed() {
+            return Some(k);
+        }
+    }
+    None
 }
 
 fn wrong_size(k: usize, r: Region) -> bool
@@ -108,7 +114,12 @@ fn wrong_size(k: usize, r: Region) -> bool
 fn first_wrong_size(b: &[u8; LAYOUT_BYTES]) -> Option<usize>
     ensures { result ≡ found S.regions (λ k. S.wrong_size k (S.region b.now k)) }
 {
-    (0..REGIONS).find(|k| wrong_size(*k, region_at(b, *k)))
+    for k in 0..REGIONS {
+        if wrong_size(k, region_at(b, k)) {
+            return Some(k);
+        }
+    }
+    None
 }
 
 // Two regions, the one with the lower number first, that share an address and may not: AR and CR may.
@@ -134,7 +145,12 @@ fn pair_collides(b: &[u8; LAYOUT_BYTES], n: usize) -> bool
 fn first_collision(b: &[u8; LAYOUT_BYTES]) -> Option<usize>
     ensures { result ≡ found (S.regions * S.regions) (S.pair_collides b.now) }
 {
-    (0..REGIONS * REGIONS).find(|n| pair_collides(b, *n))
+    for n in 0..REGIONS * REGIONS {
+        if pair_collides(b, n) {
+            return Some(n);
+        }
+    }
+    None
 }
 
 // Refusals 3 to 6.

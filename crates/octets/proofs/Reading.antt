@@ -5,7 +5,7 @@ use Rattle.std.specs.Option.{unwrap_or}
 use Rattle.std.specs.Slice.{IsGetRangeResult}
 use Rattle.std.proofs.Common.{Bor, Option, None, Some, inl, inr, refl, ap, sym, ◌∙◌, arith}
 use Rattle.std.proofs.lemmas.List.{append-nil, append_assoc, length-append, length-take, length-drop, take_all, take_min, drop_all}
-use Rattle.std.proofs.Math.Nat.{pow-succ', pow-le-pow_right}
+use Rattle.std.proofs.Math.Nat.{one-le-pow, pow-succ', pow-le-pow_right}
 use Rattle.std.proofs.Math.Seq.{get_or-append_seam}
 use Rattle.notions.specs.Bytes.{Bytes}
 use Rattle.octets.specs.Numbers.{number, number_at, number_bytes}
@@ -54,6 +54,9 @@ read_more l r s n b p h e =
       small = rw q (omega (arith, p.small, next_byte l r s n b p h e));
     }
 
+256-pow : (k : ℕ) → 0 < 256 ^ k
+256-pow k = one-le-pow k 256 (omega arith)
+
 -- the bytes from a place on, as many of them as there are, and k of those
 pub bytes_from : (b : List ℕ) (from : ℕ) (o : Option (Bor (List ℕ))) (d : Bor (List ℕ))
     → IsGetRangeResult b from (length b) o → d.now ≡ [] → (unwrap_or o d).now ≡ drop from b
@@ -69,3 +72,15 @@ read_part b y from k j r ey ej (v, s) =
     let n : length (take j y) ≤ k = simp length-take (omega arith) in
     let p : 256 ^ length (take j y) ≤ 256 ^ k = pow-le-pow_right {n = 256} (omega arith) {i = length (take j y)} {j = k} n in
     (v ∙ ap number e, omega (arith, s, p))
+
+-- fewer than k bytes are left, or k
+pub read_short : (b y : List ℕ) (from k r : ℕ) → y ≡ drop from b → length y < k → (r ≡ number y) × (r < 256 ^ length y)
+    → (r ≡ number_at b from k) × (r < 256 ^ k)
+read_short b y from k r ey l q =
+    let t : take (length y) y ≡ y = take_all (length y) y (omega arith) in
+    read_part b y from k (length y) r ey (omega arith) (rw t q)
+
+pub read_all : (b y : List ℕ) (from k r : ℕ) → y ≡ drop from b → k ≤ length y
+    → (r ≡ number (take k y)) × (r < 256 ^ length (take k y))
+    → (r ≡ number_at b from k) × (r < 256 ^ k)
+read_all b y from k r ey l q = read_part b y from k k r ey (omega arith) q

@@ -33,7 +33,11 @@ fn short_number_at(bytes: &[u8], from: usize, k: usize) -> u64
     ensures { (result ≡ N.number_at bytes.now from k) × (result < 256 ^ k) }
 {
     let behind = bytes.get(from..).unwrap_or(&[]);
-    short_number(&behind[..k.min(behind.len())])
+    // Where all k are there their length is known to the compiler, which then reads them at once.
+    if behind.len() < k {
+        return short_number(behind);
+    }
+    short_number(&behind[..k])
 }
 
 // The number of k bytes from a place on, or of those of them that there are. Over eight count as eight.

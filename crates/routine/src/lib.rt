@@ -41,6 +41,10 @@ pub fn token(key: &[u8], challenge: &[u8]) -> Result<[u8; STRING], Refusal>
 pub fn reply_to(key: &[u8], t: &[u8], region: &[u8]) -> Result<[u8; STRING], Refusal>
     ensures { P.RepliesTo key.now t.now region.now result }
 {
+    // A region that is too long is refused before anything is hashed.
+    if region.len() > hmac::MOST {
+        return Err(Reason::LengthOrTotal.into());
+    }
     let one_time_key = hmac::mac(key, t)?;
     hmac::mac(&one_time_key, region)
 }

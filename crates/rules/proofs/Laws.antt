@@ -41,6 +41,23 @@ held_away l m s e = simp e
 found_or_none : (b : Broken) → (n : ℕ) → first rule_numbers (numbered b) ≡ n → n < rule_numbers → lowest b ≡ n
 found_or_none b n e h = simp (e, lt-ltb n rule_numbers h)
 
+-- asked in turn, the first rule that is broken has the lowest number
+pub lowest_in_turn : (r1 r2 r3 r4 r5 r6 r7 r8 r9 r10 : Bool)
+    → pick r1 1 (pick r2 2 (pick r3 3 (pick r4 4 (pick r5 5 (pick r6 6 (pick r7 7 (pick r8 8 (pick r9 9 (pick r10 10 0)))))))))
+    ≡ lowest (record { r1 = r1; r2 = r2; r3 = r3; r4 = r4; r5 = r5; r6 = r6; r7 = r7; r8 = r8; r9 = r9; r10 = r10 })
+unfolding first
+lowest_in_turn true r2 r3 r4 r5 r6 r7 r8 r9 r10 = refl
+lowest_in_turn false true r3 r4 r5 r6 r7 r8 r9 r10 = refl
+lowest_in_turn false false true r4 r5 r6 r7 r8 r9 r10 = refl
+lowest_in_turn false false false true r5 r6 r7 r8 r9 r10 = refl
+lowest_in_turn false false false false true r6 r7 r8 r9 r10 = refl
+lowest_in_turn false false false false false true r7 r8 r9 r10 = refl
+lowest_in_turn false false false false false false true r8 r9 r10 = refl
+lowest_in_turn false false false false false false false true r9 r10 = refl
+lowest_in_turn false false false false false false false false true r10 = refl
+lowest_in_turn false false false false false false false false false true = refl
+lowest_in_turn false false false false false false false false false false = refl
+
 -- a rule's number by its place among them; no place is number 0
 abbrev pub number_at : Option ℕ → ℕ
 number_at None = 0

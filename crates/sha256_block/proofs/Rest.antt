@@ -1,11 +1,19 @@
 -- What whole blocks leave of some bytes. Assumes nothing.
-use Rattle.std.proofs.Common.{◌≡◌, ℕ, ◌+◌, ◌*◌, ◌/◌, ◌%◌, ◌<◌, List, ◌++◌, length, take, drop, sym, ap, ◌∙◌, append_assoc, arith, length-append, length-drop, take-append-drop, length-take-le}
+use Rattle.std.proofs.Common.{◌≡◌, ℕ, ◌+◌, ◌-◌, ◌*◌, ◌/◌, ◌%◌, ◌<◌, List, ◌++◌, length, take, drop, sym, ap, ◌∙◌, append_assoc, arith, length-append, length-drop, take-append-drop, length-take-le, take_all}
 use lib.Seq.{drop-append-add}
 use Rattle.sha256_block.specs.Block.{whole, rest}
 use Rattle.sha256_block.proofs.Laws.{whole_join, whole_short}
 
 pub length_rest : (y : List ℕ) → length (rest y) ≡ length y % 64
 length_rest y = rw length-drop (omega arith)
+
+-- the part of a slice that the code names so
+pub left_behind : (y : List ℕ) → take (length y - (length y - length y % 64)) (drop (length y - length y % 64) y)
+    ≡ rest y
+left_behind y =
+    let e : length y - length y % 64 ≡ length y / 64 * 64 = omega arith in
+    ap (λ (n : ℕ). take (length y - n) (drop n y)) e
+    ∙ take_all (length y - length y / 64 * 64) (rest y) (rw length-drop (omega arith))
 
 pub rest_join : (a b : List ℕ) → length a % 64 ≡ 0 → rest (a ++ b) ≡ rest b
 rest_join a b h =

@@ -33,6 +33,9 @@ padding_long n = omega (arith, length_padding n)
 pub padded_whole : claim.PaddedWhole
 padded_whole m = omega (arith, length-append m (padding (length m)), length_padding (length m))
 
+pub length_be8 : (b : List ℕ) (x : ℕ) → b ≡ bytes 8 x → length b ≡ 8
+length_be8 b x e = ap length e ∙ length_bytes_8 x
+
 -- the bytes l, the byte 80, and zeros behind it to 128 bytes
 marked : (l : List ℕ) → length l < 128
     → set (l ++ drop (length l) (replicate 128 0)) (length l) 0x80 ≡ l ++ (0x80 ∷ replicate (127 - length l) 0)

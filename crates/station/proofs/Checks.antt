@@ -14,6 +14,7 @@ use Rattle.sha256.specs.Promises.{too_long}
 use Rattle.sha256.proofs.Laws.{gives_ok}
 use Rattle.hmac.specs.Promises.{most, long}
 use Rattle.routine.specs.Strings.{same}
+use Rattle.routine.specs.Routine.{reply}
 use Rattle.routine.specs.Promises.{Tokens, Replies}
 use Rattle.station.specs.Promises.{not_of, token_unfit, check_unfit, MakesToken, ChecksReply}
 use Rattle.std.specs.Prelude.{Err, Ok, Result}
@@ -44,6 +45,10 @@ module _ (k challenge given region : List ℕ) where
         let b = neither (token_unfit k challenge || not_of 32 given) (eqb (length region) 0) a.0 in
         let c = neither (token_unfit k challenge) (not_of 32 given) b.0 in
         simp (both_short k challenge c.0, a.1)
+
+    module _ (d : List ℕ) (p : Replies k challenge region (Ok d)) where
+      worked_out_lem : d ≡ reply k challenge region
+      worked_out_lem = (gives_ok _ _ p).1
 
     pub checked : {d : List ℕ} (t : Bool) → Replies k challenge region (Ok d) → t ≡ same given d
         → ChecksReply k challenge given region (Ok t)

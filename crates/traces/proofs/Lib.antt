@@ -1,3 +1,4 @@
+pub mod Lists
 pub mod Laws
 pub mod Checks
 pub mod Settled

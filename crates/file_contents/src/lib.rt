@@ -60,11 +60,17 @@ fn entry_fails(file: &[u8], k: usize) -> bool
         | ((k == TRACE_ENTRY) & (end < n))
 }
 
-// The first entry that fails. In a file under 24 bytes it is entry 0, whose body would begin past the end.
+// The first entry that fails. In a file under 24 bytes it is entry 0, whose body would begin past the end. By `for`: with `find`
+// and its closure a check took five times as long.
 fn first_failing(file: &[u8]) -> Option<usize>
     ensures { result ≡ found C.entries (C.entry_fails file.now) }
 {
-    (0..ENTRIES).find(|k| entry_fails(file, *k))
+    for k in 0..ENTRIES {
+        if entry_fails(file, k) {
+            return Some(k);
+        }
+    }
+    None
 }
 
 // Refusals 15 and 13.
